@@ -1,0 +1,25 @@
+-- L, the least common multiple of Π and all T (01, "Numbers and components").
+use Prim.Native.Nat.{ℕ, zero, suc, _*_, _/_, _%_}
+use mathlib.Core.Bool.{Bool, true, false}
+use mathlib.Core.List.{List, [], _∷_}
+use lib.Dec.{eqb}
+use Rattle.budget.specs.declared.task.Task.{Task}
+use Rattle.budget.specs.Task.{T}
+
+-- Euclid's remainder rule, which ends at zero: the second number falls at each step, so as many steps as it has units are enough
+unfoldable pub euclid : ℕ → ℕ → ℕ → ℕ
+euclid zero a b = a
+euclid (suc steps) a b = elim (eqb b 0) [ true ↦ a | false ↦ euclid steps b (a % b) ]
+
+-- the greatest common divisor
+unfoldable pub commonDivisor : ℕ → ℕ → ℕ
+commonDivisor a b = euclid (suc b) a b
+
+-- the least common multiple of two numbers
+unfoldable pub commonMultiple : ℕ → ℕ → ℕ
+commonMultiple a b = a / commonDivisor a b * b
+
+-- the least common multiple of a number and the periods of the tasks ("Π alone if there are no tasks")
+unfoldable pub commonPeriod : ℕ → List Task → ℕ
+commonPeriod p [] = p
+commonPeriod p (k ∷ ks) = commonPeriod (commonMultiple p (T k)) ks

@@ -1,0 +1,71 @@
+-- A component: a number, an interface whose capacity is stated or asked, and 0 to 64 tasks (01, "Numbers and components").
+use Prim.Native.Nat.{ℕ}
+use mathlib.Core.Bool.{Bool, cond, _&&_}
+use mathlib.Core.List.{List, []}
+use mathlib.Core.Path.{_≡_}
+use lib.Dec.{leb, ltb, eqb}
+use Rattle.budget.specs.declared.component.Capacity.{Capacity}
+use Rattle.budget.specs.declared.component.Capacity.the-variants.{Stated, Asked}
+use Rattle.budget.specs.declared.component.Component.{Component}
+use Rattle.budget.specs.declared.interface.Interface.{Interface}
+use Rattle.budget.specs.declared.task.Task.{Task}
+use Rattle.budget.specs.declared.common_period.CommonPeriod.{CommonPeriod}
+use Rattle.budget.specs.CommonPeriod.{commonPeriod}
+use Rattle.budget.specs.Interface.{validInterface}
+use Rattle.budget.specs.Limits.{limit, most-tasks}
+use Rattle.budget.specs.Refusal as refusal
+use Rattle.budget.specs.Task.{tasksOf, tableOf, validTasks}
+
+-- the units of a stated capacity; an asked one has no units of its own
+abbrev pub unitsOf : Capacity → ℕ
+unitsOf (Stated u) = u .0
+unitsOf Asked = 0
+
+-- a component's interface at a given capacity
+abbrev pub interfaceAt : Component → ℕ → Interface
+interfaceAt c q = record { period = c .period; capacity = record { 0 = q }; deadline = c .deadline }
+
+-- a component's interface: at the capacity stated, or at 0 where it is asked
+unfoldable pub interfaceOf : Component → Interface
+interfaceOf c = interfaceAt c (unitsOf (c .capacity))
+
+-- "components that differ only there count as the same"
+pub record Same (a b : Component) : Type 0 where
+  pub number : a .number ≡ b .number
+  pub period : a .period ≡ b .period
+  pub capacity : a .capacity ≡ b .capacity
+  pub deadline : a .deadline ≡ b .deadline
+  pub count : a .table .count ≡ b .table .count
+  pub tasks : tasksOf (a .table) ≡ tasksOf (b .table)
+
+-- the component with the same number and interface and these tasks, as it is returned
+unfoldable pub withTasks : Component → List Task → Component
+withTasks c ks = record { number = c .number; period = c .period; capacity = c .capacity; deadline = c .deadline; table = tableOf ks }
+
+-- what stands where an edit or a reading is refused: "number 0, stated (1, 1, 1), without tasks"
+unfoldable pub refused : Component
+refused = record { number = 0; period = record { 0 = 1 }; capacity = Stated (record { 0 = 1 }); deadline = record { 0 = 1 }; table = tableOf [] }
+
+-- every number of the component is in its range (its own number always is)
+unfoldable pub validComponent : Component → Bool
+validComponent c = validInterface (interfaceOf c) && validTasks (tasksOf (c .table))
+
+-- L of a component
+unfoldable pub commonPeriodOf : Component → ℕ
+commonPeriodOf c = commonPeriod (c .period .0) (tasksOf (c .table))
+
+-- "Component given directly: 6, 9, 10"
+unfoldable pub componentRefusal : Component → ℕ
+componentRefusal c =
+    cond (ltb most-tasks (c .table .count)) refusal.tasks
+    (cond (validComponent c)
+    (cond (leb (commonPeriodOf c) limit) refusal.none refusal.long)
+    refusal.range)
+
+-- what the common period's operation answers: the refusal and 0, or L
+unfoldable pub commonPeriodAnswer : Component → CommonPeriod
+commonPeriodAnswer c =
+    record {
+      refusal = componentRefusal c;
+      length = record { 0 = cond (eqb (componentRefusal c) refusal.none) (commonPeriodOf c) 0 };
+    }

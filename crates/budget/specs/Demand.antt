@@ -1,0 +1,34 @@
+-- Demand at t: the sum over tasks with t ≥ D of (⌊(t−D)/T⌋ + 1) times C.
+use Prim.Native.Nat.{ℕ, _+_, _-_, _*_, _/_}
+use mathlib.Core.Bool.{cond}
+use mathlib.Core.List.{List, [], _∷_}
+use lib.Dec.{leb, eqb}
+use Rattle.budget.specs.declared.task.Task.{Task}
+use Rattle.budget.specs.declared.quantity.Amount.{Amount}
+use Rattle.budget.specs.declared.task.Table.{Table}
+use Rattle.budget.specs.Limits.{limit}
+use Rattle.budget.specs.Refusal as refusal
+use Rattle.budget.specs.Task.{T, C, D, tasksOf, tableRefusal}
+
+-- how many jobs of one task fall due by t
+unfoldable pub jobsBy : Task → ℕ → ℕ
+jobsBy k t = cond (leb (D k) t) ((t - D k) / T k + 1) 0
+
+unfoldable pub demand : List Task → ℕ → ℕ
+demand [] t = 0
+demand (k ∷ ks) t = jobsBy k t * C k + demand ks t
+
+-- "t up to 1,048,576, else 9, after the table's 6 and 9"
+unfoldable pub demandRefusal : Table → ℕ → ℕ
+demandRefusal table t =
+    cond (eqb (tableRefusal table) refusal.none)
+    (cond (leb t limit) refusal.none refusal.range)
+    (tableRefusal table)
+
+-- what the operation answers: the refusal and no units, or the demand
+unfoldable pub demandAnswer : Table → ℕ → Amount
+demandAnswer table t =
+    record {
+      refusal = demandRefusal table t;
+      units = record { 0 = cond (eqb (demandRefusal table t) refusal.none) (demand (tasksOf table) t) 0 };
+    }

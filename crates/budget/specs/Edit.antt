@@ -1,0 +1,45 @@
+-- Adding and removing a task (01, "Order").
+use Prim.Native.Nat.{ℕ, suc}
+use mathlib.Core.Bool.{cond, _&&_}
+use mathlib.Core.List.{List, [], _∷_, _++_}
+use lib.ListN.{take, drop}
+use lib.Dec.{leb, ltb, eqb}
+use Rattle.budget.specs.declared.component.Component.{Component}
+use Rattle.budget.specs.declared.task.Task.{Task}
+use Rattle.budget.specs.declared.edit.Edited.{Edited}
+use Rattle.budget.specs.Component.{validComponent, withTasks, refused}
+use Rattle.budget.specs.Limits.{most-tasks}
+use Rattle.budget.specs.Refusal as refusal
+use Rattle.budget.specs.Task.{validTask, tasksOf}
+
+-- "Adding: 6 (also when 64 stand already), 9"
+unfoldable pub addingRefusal : Component → Task → ℕ
+addingRefusal c k =
+    cond (leb most-tasks (c .table .count)) refusal.tasks
+    (cond (validComponent c && validTask k) refusal.none refusal.range)
+
+-- "the new task comes last"
+unfoldable pub added : List Task → Task → List Task
+added ks k = ks ++ (k ∷ [])
+
+-- "Removing: 6, 9, 15"
+unfoldable pub removingRefusal : Component → ℕ → ℕ
+removingRefusal c at =
+    cond (ltb most-tasks (c .table .count)) refusal.tasks
+    (cond (validComponent c)
+    (cond (ltb at (c .table .count)) refusal.none refusal.place)
+    refusal.range)
+
+-- "later tasks move down one"
+unfoldable pub removed : List Task → ℕ → List Task
+removed ks at = take at ks ++ drop (suc at) ks
+
+-- what an edit answers: the component with its new tasks, or the refusal and the component that stands for none
+unfoldable pub edited : ℕ → Component → List Task → Edited
+edited n c ks = record { refusal = n; component = cond (eqb n refusal.none) (withTasks c ks) refused }
+
+unfoldable pub addingAnswer : Component → Task → Edited
+addingAnswer c k = edited (addingRefusal c k) c (added (tasksOf (c .table)) k)
+
+unfoldable pub removingAnswer : Component → ℕ → Edited
+removingAnswer c at = edited (removingRefusal c at) c (removed (tasksOf (c .table)) at)

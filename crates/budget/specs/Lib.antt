@@ -1,0 +1,10 @@
+pub mod CommonPeriod
+pub mod Component
+pub mod Demand
+pub mod Edit
+pub mod Interface
+pub mod Limits
+pub mod Refusal
+pub mod Supply
+pub mod Task
+pub mod Figures

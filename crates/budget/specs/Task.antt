@@ -1,0 +1,47 @@
+-- A task (T, C, D) and a table of tasks (01, "Numbers and components").
+use Prim.Native.Nat.{ℕ, _-_}
+use mathlib.Core.Bool.{Bool, true, cond, _&&_}
+use mathlib.Core.List.{List, [], _∷_, _++_}
+use lib.ListN.{length, take, replicate}
+use lib.Dec.{leb, ltb}
+use Rattle.budget.specs.declared.task.Task.{Task}
+use Rattle.budget.specs.declared.task.Table.{Table}
+use Rattle.budget.specs.Limits.{limit, most-tasks}
+use Rattle.budget.specs.Refusal as refusal
+
+-- T, C and D of a task
+abbrev pub T : Task → ℕ
+T k = k .period .0
+
+abbrev pub C : Task → ℕ
+C k = k .work .0
+
+abbrev pub D : Task → ℕ
+D k = k .deadline .0
+
+-- "1 ≤ C ≤ D ≤ T ≤ 1,048,576"
+unfoldable pub validTask : Task → Bool
+validTask k = leb 1 (C k) && (leb (C k) (D k) && (leb (D k) (T k) && leb (T k) limit))
+
+unfoldable pub taskRefusal : Task → ℕ
+taskRefusal k = cond (validTask k) refusal.none refusal.range
+
+unfoldable pub validTasks : List Task → Bool
+validTasks [] = true
+validTasks (k ∷ ks) = validTask k && validTasks ks
+
+-- the task (0, 0, 0), which fills the places from the count on
+abbrev pub noTask : Task
+noTask = record { period = record { 0 = 0 }; work = record { 0 = 0 }; deadline = record { 0 = 0 } }
+
+-- "Task places from the count on are ignored in what is given": a table's tasks are its first `count` places
+unfoldable pub tasksOf : Table → List Task
+tasksOf t = take (t .count) (t .tasks)
+
+-- "and zero in what is returned": the one table that is returned for these tasks
+unfoldable pub tableOf : List Task → Table
+tableOf ks = record { count = length ks; tasks = ks ++ replicate (most-tasks - length ks) noTask }
+
+-- a table is refused with 6 if it has more than 64 tasks, then with 9 if a number of a task is outside its range
+unfoldable pub tableRefusal : Table → ℕ
+tableRefusal t = cond (ltb most-tasks (t .count)) refusal.tasks (cond (validTasks (tasksOf t)) refusal.none refusal.range)

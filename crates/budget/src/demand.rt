@@ -1,0 +1,1 @@
+// Demand of a task table at an instant.

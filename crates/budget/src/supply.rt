@@ -1,0 +1,1 @@
+// Supply of an interface at an instant.

@@ -1,0 +1,1 @@
+// The run: a step-by-step walk over a trace with jobs.

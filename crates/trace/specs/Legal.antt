@@ -1,0 +1,40 @@
+-- Legal supply (01, "Legal supply"): a trace is a row of 0 and 1 with an offset o, o < Π. In absolute time period k is the stretch
+-- [kΠ, kΠ + Π) and the trace is the window [o, o + length): slot i stands at the absolute place o + i, which is place (o + i) mod Π of its period.
+use Prim.Native.Nat.{ℕ, zero, suc, _+_, _-_, _*_, _≤_, _<_}
+use mathlib.Core.Bool.{Bool, true, cond, _&&_}
+use mathlib.Core.List.{List, [], _∷_}
+use lib.ListN.{length, getD}
+use lib.Dec.{ltb, leb}
+use Rattle.budget.specs.declared.interface.Interface.{Interface}
+use Rattle.budget.specs.Interface.{Π, Θ, Δ}
+
+-- "a row of 0 and 1"
+unfoldable pub zerosAndOnes : List ℕ → Bool
+zerosAndOnes [] = true
+zerosAndOnes (b ∷ s) = leb b 1 && zerosAndOnes s
+
+-- the supplied slots of a trace
+unfoldable pub supplied : List ℕ → ℕ
+supplied [] = 0
+supplied (b ∷ s) = b + supplied s
+
+-- what the absolute place x counts: 1 if it lies outside the trace, else 1 if its slot is supplied and 0 if not
+unfoldable pub counted : ℕ → List ℕ → ℕ → ℕ
+counted o s x = cond (ltb x o) 1 (getD s (x - o) 1)
+
+-- what the n absolute places from x on count
+unfoldable pub countedFrom : ℕ → List ℕ → ℕ → ℕ → ℕ
+countedFrom o s x zero = 0
+countedFrom o s x (suc n) = countedFrom o s x n + counted o s (x + n)
+
+-- the trace touches period k: some slot of it stands there
+pub record Touches (i : Interface) (o : ℕ) (s : List ℕ) (k : ℕ) : Type 0 where
+  pub slot : ℕ
+  pub inside : slot < length s
+  pub from : k * Π i ≤ o + slot
+  pub until : o + slot < k * Π i + Π i
+
+-- "for every period that the trace touches, supplied slots at places below Δ, plus places below Δ of that period lying outside the
+-- trace, are at least Θ"
+abbrev pub Legal : Interface → ℕ → List ℕ → Type 0
+Legal i o s = (k : ℕ) → Touches i o s k → Θ i ≤ countedFrom o s (k * Π i) (Δ i)

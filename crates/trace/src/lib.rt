@@ -1,0 +1,1 @@
+// Legal supply: the yes or no on a supply trace.
