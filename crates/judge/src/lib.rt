@@ -1,0 +1,1 @@
+// Verdict, margin and smallest capacity.

@@ -1,0 +1,1 @@
+// The budget sheet: records, reader, parts, writer.
