@@ -1,1 +1,2 @@
 // Verdict, margin and smallest capacity.
+pub mod answer;

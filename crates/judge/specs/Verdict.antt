@@ -1,0 +1,34 @@
+-- The verdict (01, "Verdict").
+use Prim.Native.Nat.{ℕ, suc, _≤_, _<_}
+use mathlib.Core.Bool.{Bool, cond}
+use mathlib.Core.List.{List}
+use lib.Dec.{leb, ltb}
+use Rattle.budget.specs.declared.interface.Interface.{Interface}
+use Rattle.budget.specs.declared.task.Task.{Task}
+use Rattle.budget.specs.Demand.{demand}
+use Rattle.budget.specs.Supply.{supply}
+use Rattle.judge.specs.declared.answer.Verdict as Variant
+use Rattle.judge.specs.declared.answer.Verdict.{Verdict}
+use Rattle.judge.specs.Search.{smallest}
+
+-- "Accepted: for every t ≥ 1, demand ≤ supply"
+unfoldable pub Accepted : List Task → Interface → Type 0
+Accepted ks i = (t : ℕ) → 1 ≤ t → demand ks t ≤ supply i t
+
+-- "short at the smallest t where demand exceeds supply"
+pub record ShortAt (ks : List Task) (i : Interface) (t : ℕ) : Type 0 where
+  pub some : 1 ≤ t
+  pub short : supply i t < demand ks t
+  pub first : (u : ℕ) → 1 ≤ u → u < t → demand ks u ≤ supply i u
+
+-- demand exceeds supply at t
+unfoldable pub isShort : List Task → Interface → ℕ → Bool
+isShort ks i t = ltb (supply i t) (demand ks t)
+
+-- the first short instant from 1 to n, or n + 1 where there is none
+unfoldable pub firstShort : List Task → Interface → ℕ → ℕ
+firstShort ks i n = suc (smallest (λ u. isShort ks i (suc u)) n)
+
+-- the verdict on a stated capacity, worked out over the instants up to L: "That instant, if any, is at most L"
+unfoldable pub verdictOn : List Task → Interface → ℕ → Verdict
+verdictOn ks i l = cond (leb (firstShort ks i l) l) (Variant.the-variants.Short (record { 0 = firstShort ks i l })) Variant.the-variants.Accepted

@@ -1,0 +1,15 @@
+use budget::quantity::Time;
+use budget::quantity::Units;
+
+// The verdict: accepted, short with the first short instant, or none where a capacity was asked and there is none.
+pub enum Verdict {
+    Accepted,
+    Short(Time),
+    None,
+}
+
+// What judging a component answers: a refusal, or the capacity stated or found (0 for none) and the verdict.
+pub enum Judged {
+    Refused(u16),
+    Answered(Units, Verdict),
+}
