@@ -1,2 +1,3 @@
+pub mod SupplyLaws
 pub mod Valid
 pub mod Tests
