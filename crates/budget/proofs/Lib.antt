@@ -1,3 +1,4 @@
 pub mod SupplyLaws
 pub mod Valid
 pub mod Tests
+pub mod Answers

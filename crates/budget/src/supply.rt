@@ -1,1 +1,58 @@
 // Supply of an interface at an instant.
+use crate::interface::Interface;
+use crate::interface::check_interface;
+use crate::quantity::Amount;
+use crate::quantity::Time;
+use crate::quantity::Units;
+use crate::refusal;
+ghost use mathlib.Core.Path.{_≡_};
+ghost use Prim.Native.Nat.{_≤_};
+ghost use mathlib.Core.Bool.{true};
+ghost use Rattle.budget.specs.Interface.{validInterface};
+ghost use Rattle.budget.specs.Limits.{limit};
+ghost use Rattle.budget.specs.Supply as Supply;
+
+// The fewest units in `at` slots of an interface in range. Supply is counted from the longest gap, Π + Δ − 2Θ slots.
+fn units_by(interface: Interface, at: u32) -> u32
+    requires { ⌜ validInterface interface ≡ true ⌝ }
+    requires { ⌜ at ≤ limit ⌝ }
+    ensures { λ r. ⌜ r ≡ Supply.supply interface at ⌝ }
+{
+    let period = interface.period.0;
+    let capacity = interface.capacity.0;
+    let deadline = interface.deadline.0;
+    let wait = deadline - capacity;
+    if at < wait {
+        return 0;
+    }
+    let whole = (at - wait) / period;
+    let passed = period + deadline - 2 * capacity + whole * period;
+    if passed < at {
+        return whole * capacity + (at - passed);
+    }
+    whole * capacity
+}
+
+// Supply of an interface at t.
+pub fn supply(interface: Interface, t: Time) -> Amount
+    ensures { λ r. ⌜ r ≡ Supply.supplyAnswer interface (t .0) ⌝ }
+{
+    let refused = check_interface(interface);
+    if refused != refusal::NONE {
+        return Amount {
+            refusal: refused,
+            units: Units(0),
+        };
+    }
+    let at = t.0;
+    if Time::LIMIT < at {
+        return Amount {
+            refusal: refusal::RANGE,
+            units: Units(0),
+        };
+    }
+    Amount {
+        refusal: refusal::NONE,
+        units: Units(units_by(interface, at)),
+    }
+}
