@@ -1,3 +1,4 @@
+pub mod DemandLaws
 pub mod SupplyLaws
 pub mod Valid
 pub mod Tests
