@@ -3,3 +3,4 @@ pub mod SupplyLaws
 pub mod Valid
 pub mod Tests
 pub mod Answers
+pub mod CommonPeriodLaws
