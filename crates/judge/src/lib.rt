@@ -1,2 +1,3 @@
 // Verdict, margin and smallest capacity.
 pub mod answer;
+pub mod steps;

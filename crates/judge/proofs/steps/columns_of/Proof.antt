@@ -1,0 +1,89 @@
+-- `judge::steps::columns_of` meets its contract. The loop's invariant: the first `i` places of each column hold their number of each task.
+use Prim.Native.Nat.{ℕ, _-_, _≤_}
+use mathlib.Core.Path.{_≡_, refl, subst}
+use mathlib.Core.List.{List}
+use native.Mathlib.Omega.{arith}
+use borrow.Author.Needs.{needs}
+use Rattle.budget.specs.declared.task.Task.{Task}
+use Rattle.budget.specs.Task.{T, C, D}
+use Rattle.judge.specs.Steps.{Column}
+use Rattle.judge.proofs.StepLoops.{column-none, column-more}
+use Rattle.judge.proofs.steps.columns_of.Statement.{statement}
+use Rattle.judge.proofs.steps.columns_of.Tie as tie
+use Rattle.judge.proofs.steps.columns_of.Reads as reads
+use Rattle.judge.proofs.steps.columns_of.Lts as lts
+
+abbrev Inv-loop : tie.InvT-loop
+Inv-loop tasks period₀ work₀ due₀ i₀ period work due i =
+    (i ≤ 64) × Column (λ k. T k) tasks i period × Column (λ k. C k) tasks i work × Column (λ k. D k) tasks i due
+
+abbrev μ-loop : tie.MeasureT-loop
+μ-loop tasks period₀ work₀ due₀ i₀ period work due i = 64 - i
+
+whole : {of : Task → ℕ} {ks : List Task} {n : ℕ} {xs : List ℕ} → n ≡ 64 → Column of ks n xs → Column of ks 64 xs
+whole {of} {ks} {n} {xs} e = subst (λ (m : ℕ). Column of ks m xs) e
+
+loop-holds : tie.Need-loop-holds Inv-loop μ-loop
+loop-holds c = (search needs, column-none _ _ _ refl, column-none _ _ _ refl, column-none _ _ _ refl)
+
+mul-task : tie.Need-mul-task Inv-loop μ-loop
+mul-task c = omega arith
+
+array-copy-out-task : tie.Need-array-copy-out-task Inv-loop μ-loop
+array-copy-out-task c = search needs
+
+mul-period : tie.Need-mul-period Inv-loop μ-loop
+mul-period c = omega arith
+
+array-write-period : tie.Need-array-write-period Inv-loop μ-loop
+array-write-period c = omega arith
+
+mul-work : tie.Need-mul-work Inv-loop μ-loop
+mul-work c = omega arith
+
+array-write-work : tie.Need-array-write-work Inv-loop μ-loop
+array-write-work c = omega arith
+
+mul-due : tie.Need-mul-due Inv-loop μ-loop
+mul-due c = omega arith
+
+array-write-due : tie.Need-array-write-due Inv-loop μ-loop
+array-write-due c = omega arith
+
+add-i : tie.Need-add-i Inv-loop μ-loop
+add-i c = omega arith
+
+loop-less : tie.Need-loop-less Inv-loop μ-loop
+loop-less c = omega arith
+
+loop-again : tie.Need-loop-again Inv-loop μ-loop
+loop-again c =
+    let h = c .before .loop-test .taken in
+    let inv = c .before .before .loop .inv in
+    (omega arith, column-more _ _ _ _ h (inv .1), column-more _ _ _ _ h (inv .2), column-more _ _ _ _ h (inv .3))
+
+returns : tie.Need-returns Inv-loop μ-loop
+returns c =
+    let e : c .before .loop .i ≡ 64 = omega arith in
+    let inv = c .before .loop .inv in
+    record { period = whole e (inv .1); work = whole e (inv .2); due = whole e (inv .3) }
+
+pub columns-of-spec : {M : Type 1} → statement M
+columns-of-spec =
+    tie.close
+    (tie.spec
+    Inv-loop
+    μ-loop
+    loop-holds
+    mul-task
+    array-copy-out-task
+    mul-period
+    array-write-period
+    mul-work
+    array-write-work
+    mul-due
+    array-write-due
+    add-i
+    loop-less
+    loop-again
+    returns)
