@@ -1,1 +1,4 @@
+pub mod Instants
+pub mod SearchLaws
+pub mod StepLaws
 pub mod StepLoops

@@ -27,9 +27,9 @@ column-more of ks n xs h c =
     record {
       long = length-set xs n (of (getD ks n noTask)) ∙ c .long;
       holds =
-        below-more (λ j. getD (set xs n (of (getD ks n noTask))) j 0 ≡ of (getD ks j noTask)) n
-        (λ j l. getD-set-other xs n j _ 0 (ne-of-lt l) ∙ c .holds j l)
-        (getD-set-same xs n _ 0 (subst (λ (m : ℕ). n < m) (sym (c .long)) h));
+          below-more (λ j. getD (set xs n (of (getD ks n noTask))) j 0 ≡ of (getD ks j noTask)) n
+          (λ j l. getD-set-other xs n j _ 0 (ne-of-lt l) ∙ c .holds j l)
+          (getD-set-same xs n _ 0 (subst (λ (m : ℕ). n < m) (sym (c .long)) h));
     }
 
 -- before the first task
@@ -49,14 +49,15 @@ next-more : (due : List ℕ) (n next : ℕ) → Next due n next → Next due (n 
 next-more due n next w =
     record {
       low =
-        below-more (λ j. min next (getD due n 0) ≤ getD due j 0) n
-        (λ j h. let l = w .low j h in omega arith)
-        (omega arith);
+          below-more (λ j. min next (getD due n 0) ≤ getD due j 0) n
+          (λ j h. let l = w .low j h in omega arith)
+          (omega arith);
       attained = pick (decLe next (getD due n 0)) (w .attained);
     }
   where
     Attained : ℕ → ℕ → Type 0
     Attained m x = (x ≡ suc limit) ⊎ ((j : ℕ) × (j < m) × (getD due j 0 ≡ x))
+
     pick : Dec (next ≤ getD due n 0) → Attained n next → Attained (n + 1) (min next (getD due n 0))
     pick (yes h) (inl e) = inl (omega arith)
     pick (yes h) (inr (j, l, e)) = inr (j, omega arith, omega arith)
@@ -73,28 +74,28 @@ module _ (period work before after after′ : List ℕ) (n at asked sum next dea
   old = p .left n (omega arith)
 
   pub passed-more : length after′ ≡ length after
-    → ((j : ℕ) → j ≢ n → getD after′ j 0 ≡ getD after j 0)
-    → getD after′ n 0 ≡ deadline
-    → deadline ≡ passed at (getD period n 0) (getD after n 0)
-    → sum′ ≡ sum + cond (eqb (getD after n 0) at) (getD work n 0) 0
-    → next′ ≡ min next deadline
-    → Passed period work before after′ (n + 1) at asked sum′ next′
+      → ((j : ℕ) → j ≢ n → getD after′ j 0 ≡ getD after j 0)
+      → getD after′ n 0 ≡ deadline
+      → deadline ≡ passed at (getD period n 0) (getD after n 0)
+      → sum′ ≡ sum + cond (eqb (getD after n 0) at) (getD work n 0) 0
+      → next′ ≡ min next deadline
+      → Passed period work before after′ (n + 1) at asked sum′ next′
   passed-more long others here is more least =
       record {
         long = long ∙ p .long;
         done =
-          below-more (λ j. getD after′ j 0 ≡ passed at (getD period j 0) (getD before j 0)) n
-          (λ j h. others j (ne-of-lt h) ∙ p .done j h)
-          (here ∙ is ∙ ap (λ (x : ℕ). passed at (getD period n 0) x) old);
+            below-more (λ j. getD after′ j 0 ≡ passed at (getD period j 0) (getD before j 0)) n
+            (λ j h. others j (ne-of-lt h) ∙ p .done j h)
+            (here ∙ is ∙ ap (λ (x : ℕ). passed at (getD period n 0) x) old);
         left = λ j h. others j (λ e. lt-irrefl n (omega arith)) ∙ p .left j (omega arith);
         demand =
-          more
+            more
             ∙ ap₂ (λ (a b : ℕ). a + cond (eqb b at) (getD work n 0) 0) (p .demand) old
             ∙ add-assoc asked _ _
             ∙ ap (λ (x : ℕ). asked + x) (due-more work before at n);
         least =
-          subst (λ (x : ℕ). Next after′ (n + 1) x) (ap (λ (x : ℕ). min next x) here ∙ sym least)
-          (next-more after′ n next (next-kept (p .least)));
+            subst (λ (x : ℕ). Next after′ (n + 1) x) (ap (λ (x : ℕ). min next x) here ∙ sym least)
+            (next-more after′ n next (next-kept (p .least)));
       }
     where
       next-kept : Next after n next → Next after′ n next
@@ -106,8 +107,8 @@ module _ (period work before after after′ : List ℕ) (n at asked sum next dea
 
   -- the task is due at the instant
   pub passed-due : n < length after → getD after n 0 ≡ at → after′ ≡ set after n (getD after n 0 + getD period n 0) → sum′ ≡ sum + getD work n 0
-    → next′ ≡ min next (getD after n 0 + getD period n 0) → deadline ≡ getD after n 0 + getD period n 0
-    → Passed period work before after′ (n + 1) at asked sum′ next′
+      → next′ ≡ min next (getD after n 0 + getD period n 0) → deadline ≡ getD after n 0 + getD period n 0
+      → Passed period work before after′ (n + 1) at asked sum′ next′
   unfolding passed
   passed-due h e is more least d =
       passed-more
@@ -120,7 +121,7 @@ module _ (period work before after after′ : List ℕ) (n at asked sum next dea
 
   -- the task is due later
   pub passed-later : (getD after n 0 ≡ at → ⊥) → after′ ≡ after → sum′ ≡ sum → deadline ≡ getD after n 0 → next′ ≡ min next (getD after n 0)
-    → Passed period work before after′ (n + 1) at asked sum′ next′
+      → Passed period work before after′ (n + 1) at asked sum′ next′
   unfolding passed
   passed-later ne is same d least =
       passed-more

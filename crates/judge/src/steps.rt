@@ -47,7 +47,14 @@ pub fn columns_of(table: Table) -> Columns
 }
 
 // The demand rises by the work of each task that is due at this instant; such a task's next deadline is a period later.
-pub fn pass(period: &[u32; 64], work: &[u32; 64], due: &mut [u32; 64], count: usize, at: u32, demand: u32) -> Step
+pub fn pass(
+    period: &[u32; 64],
+    work: &[u32; 64],
+    due: &mut [u32; 64],
+    count: usize,
+    at: u32,
+    demand: u32,
+) -> Step
     requires { ⌜ Steppable (now period) (now work) (now due) count at demand ⌝ }
     ensures { λ r. ⌜ Stepped (now (period .entry)) (now (work .entry)) (now (due .entry)) (now (due .exit)) count at demand r ⌝ }
 {

@@ -72,17 +72,16 @@ loop-again c =
     let a = c .before .before .before .before in
     let h = c .before .before .before .loop-test .taken in
     let p = a .loop .inv .2 in
-    let least = c .earlier .ensures in
-    (
+    let least = c .earlier .ensures in (
       omega arith,
       ⊎-elim
-      (λ w. omega (arith, w .4, a .before .pre .works-fit (a .loop .i) h, a .loop .inv))
-      (λ w. omega (arith, w .2, a .loop .inv))
-      (c .before .if1 .came),
+          (λ w. omega (arith, w .4, a .before .pre .works-fit (a .loop .i) h, a .loop .inv))
+          (λ w. omega (arith, w .2, a .loop .inv))
+          (c .before .if1 .came),
       ⊎-elim
-      (λ w. passed-due _ _ _ _ _ _ _ _ _ _ _ _ _ p (omega (arith, p .long, a .before .pre)) (w .0 .taken) (w .3) (w .4) (least ∙ ap (λ (x : ℕ). min (a .loop .next) x) (w .5)) (w .5))
-      (λ w. passed-later _ _ _ _ _ _ _ _ _ _ _ _ _ p (w .0 .left) (w .1) (w .2) (w .3) (least ∙ ap (λ (x : ℕ). min (a .loop .next) x) (w .3)))
-      (c .before .if1 .came),
+          (λ w. passed-due _ _ _ _ _ _ _ _ _ _ _ _ _ p (omega (arith, p .long, a .before .pre)) (w .0 .taken) (w .3) (w .4) (least ∙ ap (λ (x : ℕ). min (a .loop .next) x) (w .5)) (w .5))
+          (λ w. passed-later _ _ _ _ _ _ _ _ _ _ _ _ _ p (w .0 .left) (w .1) (w .2) (w .3) (least ∙ ap (λ (x : ℕ). min (a .loop .next) x) (w .3)))
+          (c .before .if1 .came),
     )
 
 returns : tie.Need-returns Inv-loop μ-loop
