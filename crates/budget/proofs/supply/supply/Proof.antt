@@ -1,7 +1,7 @@
 -- Supply answers as defined: each return is the answer at the refusal found, and a supply that is counted is that of an interface in range.
 use mathlib.Core.Path.{sym, _∙_}
 use borrow.Author.Needs.{needs}
-use Rattle.budget.specs.Interface.{interfaceRefusal, validInterface}
+use Rattle.budget.specs.Interface.{interfaceRefusal}
 use Rattle.budget.specs.Supply.{supply, supplyRefusal, supplyAnswer}
 use Rattle.budget.proofs.Answers.{answer-refused, answer-late, answer-given, passed}
 use Rattle.budget.proofs.supply.supply.Statement.{statement}
