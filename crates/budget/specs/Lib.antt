@@ -7,4 +7,3 @@ pub mod Limits
 pub mod Refusal
 pub mod Supply
 pub mod Task
-pub mod Figures

@@ -1,0 +1,38 @@
+-- The table of figures holds: each row by computation; a trace's legality goes by the two periods that it touches.
+use Prim.Native.Nat.{ℕ, zero, suc, _+_, _*_, _≤_, _<_}
+use mathlib.Core.Path.{refl}
+use native.Mathlib.Omega.{arith}
+use lib.Dec.{lit<, lit≤}
+use Rattle.budget.specs.CommonPeriod.{commonPeriod, commonMultiple, commonDivisor, euclid}
+use Rattle.budget.specs.Demand.{demand, jobsBy}
+use Rattle.budget.specs.Interface.{interface}
+use Rattle.budget.specs.Supply.{supply, wholePeriods}
+use Rattle.judge.specs.Search.{smallest}
+use Rattle.judge.specs.Verdict.{verdictOn, firstShort, isShort}
+use Rattle.run.specs.Job.{deadline, taskOf}
+use Rattle.run.specs.Run.{waits, goesBefore, headFirst, next, serve, slot, leftAt, MissAt}
+use Rattle.trace.specs.Legal.{Legal, Touches, counted, countedFrom}
+use Rattle.promises.specs.Figures.{Hold, figures, eleven, jobs, trace}
+
+legal : Legal (interface 6 2 4) 2 trace
+unfolding counted countedFrom
+legal zero t = lit≤ tt
+legal (suc zero) t = lit≤ tt
+legal (suc (suc k)) t = absurd (omega (arith, t .inside, t .from))
+
+not-at-start : ¬ Legal (interface 6 2 4) 0 trace
+unfolding counted countedFrom
+not-at-start l = omega (arith, l 0 (record { slot = 0; inside = lit< tt; from = lit≤ tt; until = lit< tt }))
+
+not-at-three : ¬ Legal (interface 6 2 4) 3 trace
+unfolding counted countedFrom
+not-at-three l = omega (arith, l 1 (record { slot = 3; inside = lit< tt; from = lit≤ tt; until = lit< tt }))
+
+miss : MissAt eleven jobs trace 7
+unfolding waits goesBefore headFirst next serve slot leftAt deadline taskOf
+miss = record { place = 0; inside = lit< tt; due = refl; late = lit< tt }
+
+pub figures-hold : Hold figures
+unfolding supply wholePeriods demand jobsBy commonPeriod commonMultiple commonDivisor euclid verdictOn firstShort isShort smallest waits goesBefore headFirst next serve slot leftAt deadline taskOf
+figures-hold =
+    (refl, (refl, (refl, (refl, (refl, (refl, (refl, (refl, ((refl, refl), (refl, (refl, ((legal, not-at-start, not-at-three), ((miss, refl), tt)))))))))))))

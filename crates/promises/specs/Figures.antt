@@ -1,0 +1,66 @@
+-- The figures of 01 that are to be proved, in one table: a row is a figure's number and what 01 says of it, of the definitions that the
+-- contracts cite. `Hold` is the one statement about the table.
+use Prim.Native.Nat.{ℕ}
+use mathlib.Core.List.{List, [], _∷_, map}
+use mathlib.Core.Path.{_≡_}
+use Rattle.budget.specs.declared.interface.Interface.{Interface}
+use Rattle.budget.specs.declared.task.Task.{Task}
+use Rattle.budget.specs.CommonPeriod.{commonPeriod}
+use Rattle.budget.specs.Demand.{demand}
+use Rattle.budget.specs.Interface.{interface, dedicated}
+use Rattle.budget.specs.Supply.{supply}
+use Rattle.judge.specs.declared.answer.Verdict.the-variants.{Accepted, Short}
+use Rattle.judge.specs.Verdict.{verdictOn}
+use Rattle.run.specs.Job.{Job}
+use Rattle.run.specs.Run.{MissAt, leftAt}
+use Rattle.trace.specs.Legal.{Legal}
+
+-- the task (T, C, D)
+abbrev task : ℕ → ℕ → ℕ → Task
+task t c d = record { period = record { 0 = t }; work = record { 0 = c }; deadline = record { 0 = d } }
+
+-- the tasks of P9, P10 and P11
+abbrev pub nine : List Task
+nine = task 4 2 4 ∷ task 7 3 7 ∷ []
+
+abbrev pub ten : List Task
+ten = task 2 1 2 ∷ task 3 2 3 ∷ []
+
+abbrev pub eleven : List Task
+eleven = task 8 2 7 ∷ []
+
+-- the trace and the job of P12
+abbrev pub trace : List ℕ
+trace = 0 ∷ 0 ∷ 0 ∷ 0 ∷ 0 ∷ 0 ∷ 1 ∷ 1 ∷ []
+
+abbrev pub jobs : List Job
+jobs = record { task = 0; release = 0; work = 2 } ∷ []
+
+pub record Figure : Type 1 where
+  pub number : ℕ
+  pub says : Type 0
+
+abbrev p : ℕ → Type 0 → Figure
+p n s = record { number = n; says = s }
+
+abbrev pub figures : List Figure
+figures =
+    p 1 (supply (interface 6 2 4) 6 ≡ 0)
+    ∷ p 2 (supply (interface 6 2 4) 7 ≡ 1)
+    ∷ p 3 (supply (interface 6 2 4) 8 ≡ 2)
+    ∷ p 4 (supply (interface 6 2 4) 12 ≡ 2)
+    ∷ p 5 (supply (interface 6 2 4) 14 ≡ 4)
+    ∷ p 6 (supply (interface 6 3 6) 14 ≡ 5)
+    ∷ p 7 (map (demand (task 6 3 5 ∷ [])) (4 ∷ 5 ∷ 10 ∷ 11 ∷ []) ≡ 0 ∷ 3 ∷ 3 ∷ 6 ∷ [])
+    ∷ p 8 (demand nine 14 ≡ 12)
+    ∷ p 9 ((commonPeriod 1 nine ≡ 28) × (verdictOn nine dedicated 28 ≡ Accepted))
+    ∷ p 10 (verdictOn ten dedicated (commonPeriod 1 ten) ≡ Short (record { 0 = 6 }))
+    ∷ p 11 (verdictOn eleven (interface 6 2 4) (commonPeriod 6 eleven) ≡ Short (record { 0 = 7 }))
+    ∷ p 12 (Legal (interface 6 2 4) 2 trace × (¬ Legal (interface 6 2 4) 0 trace) × (¬ Legal (interface 6 2 4) 3 trace))
+    ∷ p 12 (MissAt eleven jobs trace 7 × (leftAt eleven jobs trace 7 ≡ 1 ∷ []))
+    ∷ []
+
+-- every row of the table holds
+abbrev pub Hold : List Figure → Type 0
+Hold [] = Unit {0}
+Hold (f ∷ fs) = f .says × Hold fs
