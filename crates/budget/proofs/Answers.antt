@@ -17,6 +17,11 @@ pub passed : (b : Bool) → cond b refusal.none refusal.range ≡ refusal.none �
 passed true e = refl
 passed false e = absurd (omega (arith, e))
 
+-- and one that is refused was not
+pub failed : (b : Bool) → (cond b refusal.none refusal.range ≡ refusal.none → ⊥) → b ≡ false
+failed true h = absurd (h refl)
+failed false h = refl
+
 -- the answer where what is asked about has the refusal n, at t, and v is the amount
 abbrev pub answer : ℕ → ℕ → ℕ → Amount
 answer n t v =

@@ -5,3 +5,4 @@ pub mod Valid
 pub mod Tests
 pub mod Answers
 pub mod CommonPeriodLaws
+pub mod Places

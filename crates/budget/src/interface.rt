@@ -18,6 +18,10 @@ impl Interface {
         capacity: Units(1),
         deadline: Time(1),
     };
+    // The range limits: Δ is at least the one, Π at most the other.
+    pub const LEAST_DEADLINE: u32 = 1;
+
+    pub const LONGEST_PERIOD: u32 = Time::LIMIT;
 }
 
 // The dedicated processor, as the constant has it.
@@ -40,10 +44,10 @@ pub fn check_interface(interface: Interface) -> u16
     if period < deadline {
         return refusal::RANGE;
     }
-    if Time::LIMIT < period {
+    if Interface::LONGEST_PERIOD < period {
         return refusal::RANGE;
     }
-    if deadline < 1 {
+    if deadline < Interface::LEAST_DEADLINE {
         return refusal::RANGE;
     }
     refusal::NONE

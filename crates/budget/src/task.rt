@@ -2,7 +2,11 @@ use crate::quantity::Time;
 use crate::quantity::Units;
 use crate::refusal;
 ghost use mathlib.Core.Path.{_≡_};
-ghost use Rattle.budget.specs.Task.{taskRefusal};
+ghost use mathlib.Core.Bool.{cond};
+ghost use Prim.Native.Nat.{_≤_};
+ghost use Rattle.budget.specs.Limits.{most-tasks};
+ghost use Rattle.budget.specs.Refusal as refusal;
+ghost use Rattle.budget.specs.Task.{taskRefusal, tableRefusal, tasksOf, validTasks};
 
 // A sporadic task: period T, work C, deadline D.
 pub struct Task {
@@ -15,6 +19,11 @@ pub struct Task {
 pub struct Table {
     pub count: usize,
     pub tasks: [Task; 64],
+}
+
+impl Table {
+    // The most tasks that a table has.
+    pub const MOST: usize = 64;
 }
 
 // The refusal of a task: 1 ≤ C ≤ D ≤ T ≤ the limit, or 9.
@@ -37,4 +46,33 @@ pub fn check_task(task: Task) -> u16
         return refusal::RANGE;
     }
     refusal::NONE
+}
+
+// The refusal of the tasks of a table that has no more than there are places.
+fn check_tasks(table: Table) -> u16
+    requires { ⌜ table .count ≤ most-tasks ⌝ }
+    ensures { λ r. ⌜ r ≡ cond (validTasks (tasksOf table)) refusal.none refusal.range ⌝ }
+{
+    let count = table.count;
+    let tasks = table.tasks;
+    let mut place = 0;
+    while place < count {
+        let refused = check_task(tasks[place]);
+        if refused != refusal::NONE {
+            return refusal::RANGE;
+        }
+        place += 1;
+    }
+    refusal::NONE
+}
+
+// The refusal of a table: more than 64 tasks are 6, then a task out of range is 9.
+pub fn check_table(table: Table) -> u16
+    ensures { λ r. ⌜ r ≡ tableRefusal table ⌝ }
+{
+    let count = table.count;
+    if Table::MOST < count {
+        return refusal::TASKS;
+    }
+    check_tasks(table)
 }

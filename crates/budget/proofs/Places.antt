@@ -1,0 +1,25 @@
+-- A walk over the places of a task table: the tasks from a place on are the one that stands there and those from the next place on.
+use Prim.Native.Nat.{ℕ, _+_, _≤_, _<_}
+use mathlib.Core.Path.{_≡_, sym, _∙_}
+use mathlib.Core.List.{List, [], _∷_, map}
+use native.Mathlib.Numerals.{add-one}
+use lib.ListN.{length, getD, take, drop, length-map, drop-of-length-le}
+use lib.Seq.{drop-cons, getD-take, length-take-le}
+use Rattle.budget.specs.declared.task.Task.{Task}
+use Rattle.budget.specs.Task.{noTask}
+
+-- what owning an array of structs tells of its list stands at `map`
+pub length-mapped : {X Y : Type 0} (f : X → Y) (l : List X) (n : ℕ) → length (map f l) ≡ n → length l ≡ n
+length-mapped f l n p = sym (length-map l f) ∙ p
+
+module _ (count : ℕ) (tasks : List Task) (fits : count ≤ length tasks) where
+  pub places : length (take count tasks) ≡ count
+  places = length-take-le count tasks fits
+
+  pub from-place : (n : ℕ) → n < count → drop n (take count tasks) ≡ getD tasks n noTask ∷ drop (n + 1) (take count tasks)
+  from-place n h =
+      rw (add-one n, ← getD-take count tasks n noTask h)
+      (drop-cons (take count tasks) n noTask (rw places h))
+
+  pub from-end : (n : ℕ) → count ≤ n → drop n (take count tasks) ≡ []
+  from-end n h = drop-of-length-le (take count tasks) {i = n} (rw places h)
