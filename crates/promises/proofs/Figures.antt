@@ -1,5 +1,5 @@
 -- The table of figures holds: each row by computation; a trace's legality goes by the two periods that it touches.
-use Prim.Native.Nat.{ℕ, zero, suc, _+_, _*_, _≤_, _<_}
+use Prim.Native.Nat.{zero, suc}
 use mathlib.Core.Path.{refl}
 use native.Mathlib.Omega.{arith}
 use lib.Dec.{lit<, lit≤}
@@ -11,7 +11,7 @@ use Rattle.judge.specs.Search.{smallest}
 use Rattle.judge.specs.Verdict.{verdictOn, firstShort, isShort}
 use Rattle.run.specs.Job.{deadline, taskOf}
 use Rattle.run.specs.Run.{waits, goesBefore, headFirst, next, serve, slot, leftAt, MissAt}
-use Rattle.trace.specs.Legal.{Legal, Touches, counted, countedFrom}
+use Rattle.trace.specs.Legal.{Legal, counted, countedFrom}
 use Rattle.promises.specs.Figures.{Hold, figures, eleven, jobs, trace}
 
 legal : Legal (interface 6 2 4) 2 trace

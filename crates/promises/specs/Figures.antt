@@ -3,7 +3,6 @@
 use Prim.Native.Nat.{ℕ}
 use mathlib.Core.List.{List, [], _∷_, map}
 use mathlib.Core.Path.{_≡_}
-use Rattle.budget.specs.declared.interface.Interface.{Interface}
 use Rattle.budget.specs.declared.task.Task.{Task}
 use Rattle.budget.specs.CommonPeriod.{commonPeriod}
 use Rattle.budget.specs.Demand.{demand}
@@ -36,6 +35,7 @@ trace = 0 ∷ 0 ∷ 0 ∷ 0 ∷ 0 ∷ 0 ∷ 1 ∷ 1 ∷ []
 abbrev pub jobs : List Job
 jobs = record { task = 0; release = 0; work = 2 } ∷ []
 
+-- a row: the figure's number in 01 and what 01 says of it
 pub record Figure : Type 1 where
   pub number : ℕ
   pub says : Type 0
