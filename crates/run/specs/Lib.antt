@@ -1,2 +1,4 @@
 pub mod Job
 pub mod Run
+pub mod Scan
+pub mod Walk

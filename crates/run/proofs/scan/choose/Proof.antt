@@ -1,0 +1,69 @@
+use Prim.Native.Nat.{ℕ, _+_, _-_, _≤_, _<_}
+use mathlib.Core.List.{List, map}
+use mathlib.Core.Path.{_≡_, sym, subst, _∙_}
+use denote.Ref.{now}
+use lib.ListN.{length, getD, drop}
+use borrow.Author.Needs.{needs}
+use native.Mathlib.Nat.{zero-add}
+use native.Mathlib.Omega.{arith}
+use Rattle.budget.specs.declared.task.Task.{Task}
+use Rattle.run.specs.Job.{Job, deadline}
+use Rattle.run.specs.Run.{next}
+use Rattle.run.proofs.Scans.{next-end, next-step, taken-waits, column-length}
+use Rattle.run.proofs.scan.choose.Statement.{statement}
+use Rattle.run.proofs.scan.choose.Tie as tie
+use Rattle.run.proofs.scan.choose.Reads as reads
+use Rattle.run.proofs.scan.choose.Lts as lts
+use Rattle.run.proofs.scan.first_of.Reads as first-of-reads
+
+abbrev Inv-loop : tie.InvT-loop
+Inv-loop due tasks releases left n first₀ i₀ first i = (i ≤ length left)
+    × (first < length left → 0 < getD left first 0)
+    × ((ks : List Task) (js : List Job) → map (deadline ks) js ≡ due → map (λ j. j .task) js ≡ tasks → map (λ j. j .release) js ≡ releases
+    → i + next ks n (drop i js) (drop i left) ≡ first)
+
+abbrev μ-loop : tie.MeasureT-loop
+μ-loop due tasks releases left n first₀ i₀ first i = i
+
+loop-holds : tie.Need-loop-holds Inv-loop μ-loop
+loop-holds c =
+    let a = c .before .before .before .before .args in (
+      search needs,
+      (λ h. omega arith),
+      (λ ks js dues tasks releases. next-end ks (a .n) js (now (a .left)) (length (now (a .left))) (omega (arith, column-length _ js _ dues))),
+    )
+
+sub-i : tie.Need-sub-i Inv-loop μ-loop
+sub-i c = search needs
+
+first-of-requires : tie.Need-first-of-requires Inv-loop μ-loop
+first-of-requires c κs = search needs
+
+loop-less : tie.Need-loop-less Inv-loop μ-loop
+loop-less c = search needs
+
+loop-again : tie.Need-loop-again Inv-loop μ-loop
+loop-again c =
+    let h = c .before .before in
+    let a = h .before .before .before .before .before .args in
+    let k = h .loop .i - 1 in (
+      search needs,
+      subst (λ (r : ℕ). r < length (now (a .left)) → 0 < getD (now (a .left)) r 0) (sym (c .first-of .ensures))
+          (taken-waits (now (a .due)) (now (a .tasks)) (now (a .releases)) (now (a .left)) (a .n) k (h .loop .first) (h .loop .inv .1)),
+      (λ ks js dues tasks releases.
+          next-step ks (a .n) js (now (a .due)) (now (a .tasks)) (now (a .releases)) (now (a .left)) dues tasks releases
+          (omega (arith, column-length _ js _ dues)) k (h .loop .i) (h .loop .first) (omega arith) (omega arith) (h .loop .inv .2 ks js dues tasks releases)
+          ∙ sym (c .first-of .ensures)),
+    )
+
+returns : tie.Need-returns Inv-loop μ-loop
+returns c =
+    let done : c .before .loop .i ≡ 0 = omega arith in (
+      λ ks js dues tasks releases. sym (rw (done, zero-add) at (c .before .loop .inv .2 ks js dues tasks releases)),
+      c .before .loop .inv .1,
+    )
+
+pub choose-spec : {M : Type 1} → statement M
+choose-spec =
+    tie.close
+    (tie.spec Inv-loop μ-loop loop-holds sub-i first-of-requires loop-less loop-again returns)

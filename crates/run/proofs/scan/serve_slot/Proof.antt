@@ -1,0 +1,75 @@
+use borrow.Author.Needs.{needs}
+use native.Mathlib.Omega.{arith}
+use denote.Ref.{now}
+use Rattle.run.proofs.Scans.{column-length}
+use Rattle.run.proofs.Slots.{not-supplied, none-waits, one-served}
+use Rattle.run.proofs.scan.serve_slot.Statement.{statement}
+use Rattle.run.proofs.scan.serve_slot.Tie as tie
+use Rattle.run.proofs.scan.serve_slot.Reads as reads
+use Rattle.run.proofs.scan.serve_slot.Lts as lts
+use Rattle.run.proofs.scan.choose.Reads as choose-reads
+
+returns : tie.Need-returns
+returns c =
+    let a = c .before .before .before .before .before .args in
+    (λ ks js dues tasks releases. not-supplied ks js (a .n) (a .byte) (now (a .left)) (c .if1 .taken), search needs)
+
+choose-requires : tie.Need-choose-requires
+choose-requires c κs = search needs
+
+same-length : tie.Need-same-length
+same-length c = search needs
+
+returns-2 : tie.Need-returns-2
+returns-2 c =
+    let s = c .before .before .before .before .before .before .before .before in
+    let a = s .args in (
+      λ ks js dues tasks releases.
+          none-waits ks js (a .n) (a .byte) (now (a .left)) (c .before .choose .result) (c .before .before .before .if1 .left)
+          (c .before .choose .ensures .0 ks js dues tasks releases) (omega (arith, column-length _ js _ dues, s .pre)) (c .if2 .taken),
+      search needs,
+    )
+
+mul-left : tie.Need-mul-left
+mul-left c = search needs
+
+slice-read-left : tie.Need-slice-read-left
+slice-read-left c = search needs
+
+sub-left : tie.Need-sub-left
+sub-left c = c .before .before .choose .ensures .1 (c .before .if2 .left)
+
+mul-left-2 : tie.Need-mul-left-2
+mul-left-2 c = search needs
+
+slice-write-left : tie.Need-slice-write-left
+slice-write-left c = search needs
+
+same-length-2 : tie.Need-same-length-2
+same-length-2 c = search needs
+
+returns-3 : tie.Need-returns-3
+returns-3 c =
+    let s = c .before .before .before .before .before .before .before .before .before in
+    let a = s .args in (
+      λ ks js dues tasks releases.
+          one-served ks js (a .n) (a .byte) (now (a .left)) (c .before .before .choose .result) (c .before .before .before .before .if1 .left)
+          (c .before .before .choose .ensures .0 ks js dues tasks releases) (omega (arith, column-length _ js _ dues, s .pre)) (c .before .if2 .left),
+      search needs,
+    )
+
+pub serve-slot-spec : {M : Type 1} → statement M
+serve-slot-spec =
+    tie.close
+    (tie.spec
+    returns
+    choose-requires
+    same-length
+    returns-2
+    mul-left
+    slice-read-left
+    sub-left
+    mul-left-2
+    slice-write-left
+    same-length-2
+    returns-3)

@@ -1,0 +1,121 @@
+use Prim.Native.Nat.{ℕ, _+_, _-_, _≤_, _<_}
+use mathlib.Core.List.{List, map}
+use mathlib.Core.Logic.{⊎-elim, inl, inr}
+use mathlib.Core.Path.{_≡_, sym, subst, _∙_}
+use lib.ListN.{length, getD, drop}
+use denote.Ref.{now}
+use borrow.Author.Needs.{needs}
+use native.Mathlib.Omega.{arith}
+use Rattle.budget.specs.declared.task.Task.{Task}
+use Rattle.run.specs.Job.{Job, deadline}
+use Rattle.run.proofs.Walking.{Walking, begin, step, stopped, answers}
+use Rattle.run.proofs.walk.walk_slots.Statement.{statement}
+use Rattle.run.proofs.walk.walk_slots.Tie as tie
+use Rattle.run.proofs.walk.walk_slots.Reads as reads
+use Rattle.run.proofs.walk.walk_slots.Lts as lts
+use Rattle.run.proofs.scan.late_task.Reads as late-task-reads
+use Rattle.run.proofs.scan.serve_slot.Reads as serve-slot-reads
+use Rattle.run.proofs.walk.miss_of.Reads as miss-of-reads
+
+abbrev Inv-loop : tie.InvT-loop
+Inv-loop due tasks releases trace left₀ t₀ served₀ idle₀ left t served idle = (length left ≡ length left₀)
+    × (t ≤ length trace)
+    × (served + idle ≤ t)
+    × ((ks : List Task) (js : List Job) → map (deadline ks) js ≡ due → map (λ j. j .task) js ≡ tasks → map (λ j. j .release) js ≡ releases
+    → map (λ j. j .work) js ≡ left₀ → Walking ks js trace t left served idle)
+
+abbrev μ-loop : tie.MeasureT-loop
+μ-loop due tasks releases trace left₀ t₀ served₀ idle₀ left t served idle = length trace - t
+
+loop-holds : tie.Need-loop-holds Inv-loop μ-loop
+loop-holds c =
+    let a = c .before .before .before .before .before .args in (
+      search needs,
+      search needs,
+      search needs,
+      (λ ks js dues tasks releases works. begin ks js (now (a .trace)) (now (a .left)) works),
+    )
+
+cast-instant : tie.Need-cast-instant Inv-loop μ-loop
+cast-instant c = search needs
+
+late-task-requires : tie.Need-late-task-requires Inv-loop μ-loop
+late-task-requires c κs = search needs
+
+shared-slice-read-serve-slot : tie.Need-shared-slice-read-serve-slot Inv-loop μ-loop
+shared-slice-read-serve-slot c = search needs
+
+serve-slot-requires : tie.Need-serve-slot-requires Inv-loop μ-loop
+serve-slot-requires c κs = search needs
+
+add-served : tie.Need-add-served Inv-loop μ-loop
+add-served c = search needs
+
+add-idle : tie.Need-add-idle Inv-loop μ-loop
+add-idle c = search needs
+
+add-t : tie.Need-add-t Inv-loop μ-loop
+add-t c = search needs
+
+loop-less : tie.Need-loop-less Inv-loop μ-loop
+loop-less c = search needs
+
+loop-again : tie.Need-loop-again Inv-loop μ-loop
+loop-again c =
+    let v = c .before .before .before .before in
+    let e = v .before .before .before in
+    let h = e .before .before .before .before in
+    let a = h .before .before .before .before .before .before .args in (
+      search needs,
+      search needs,
+      search needs,
+      (λ ks js dues tasks releases works.
+          let late = e .before .late-task .ensures ks js dues tasks in
+          step ks js (now (a .trace)) (h .loop .t) (h .loop .left) _ (h .loop .served) (h .loop .idle) _ _ (h .loop .inv .3 ks js dues tasks releases works)
+          (e .before .before .before .loop-test .taken) (omega arith) (v .serve-slot .ensures .0 ks js dues tasks releases)),
+    )
+
+cast-instant-2 : tie.Need-cast-instant-2 Inv-loop μ-loop
+cast-instant-2 c = search needs
+
+late-task-requires-2 : tie.Need-late-task-requires-2 Inv-loop μ-loop
+late-task-requires-2 c κs = search needs
+
+miss-of-requires : tie.Need-miss-of-requires Inv-loop μ-loop
+miss-of-requires c κs = search needs
+
+same-length : tie.Need-same-length Inv-loop μ-loop
+same-length c = search needs
+
+returns : tie.Need-returns Inv-loop μ-loop
+returns c =
+    let h = c .before .before .before .before in
+    let a = h .before .before .before .before .before .before .args in
+    λ ks js dues tasks releases works.
+    let w = h .loop .inv .3 ks js dues tasks releases works in
+    answers ks js (now (a .trace)) (h .loop .t) (h .loop .left) (h .loop .served) (h .loop .idle) w
+    (stopped ks js (now (a .trace)) (h .loop .t) (h .loop .left) (h .loop .served) (h .loop .idle) w
+    (⊎-elim (λ out. inr (omega arith)) (λ out. inl (rw (out .2 .ensures ks js dues tasks) at (out .3 .taken))) (c .before .before .before .loop-test .came)))
+    (c .before .late-task2 .result) (c .before .late-task2 .ensures ks js dues tasks) (c .miss-of .result) (c .miss-of .ensures)
+
+pub walk-slots-spec : {M : Type 1} → statement M
+walk-slots-spec =
+    tie.close
+    (tie.spec
+    Inv-loop
+    μ-loop
+    loop-holds
+    cast-instant
+    late-task-requires
+    shared-slice-read-serve-slot
+    serve-slot-requires
+    add-served
+    add-idle
+    add-t
+    loop-less
+    loop-again
+    cast-instant-2
+    late-task-requires-2
+    miss-of-requires
+    same-length
+    returns)

@@ -1,0 +1,121 @@
+// One slot of the run: which job is served, and which is late. The jobs are columns of numbers: deadlines, tasks, releases, work left.
+ghost use Prim.Native.Nat.{ℕ, _+_, _≤_, _<_};
+ghost use mathlib.Core.Bool.{cond, _&&_};
+ghost use mathlib.Core.List.{List, map};
+ghost use mathlib.Core.Path.{_≡_};
+ghost use lib.Dec.{ltb, eqb};
+ghost use lib.ListN.{length, getD};
+ghost use Rattle.budget.specs.declared.task.Task.{Task};
+ghost use Rattle.run.specs.Job.{Job, deadline};
+ghost use Rattle.run.specs.Run.{next};
+ghost use Rattle.run.specs.Scan.{Slotted, takesOver};
+ghost use Rattle.run.specs.Walk.{lateTask};
+
+// Of job i and the first of those behind it, the one to serve in slot n; the count of jobs stands for none.
+fn first_of(
+    due: &[u32],
+    tasks: &[u32],
+    releases: &[u32],
+    left: &[u32],
+    n: u32,
+    i: usize,
+    first: usize,
+) -> usize
+    requires { ⌜ (length (now due) ≡ length (now left)) × (length (now tasks) ≡ length (now left)) × (length (now releases) ≡ length (now left)) × (i < length (now left)) ⌝ }
+    ensures { λ r. ⌜ r ≡ cond (takesOver (now (due .entry)) (now (tasks .entry)) (now (releases .entry)) (now (left .entry)) n i first) i first ⌝ }
+{
+    if n < releases[i] {
+        return first;
+    }
+    if left[i] <= 0 {
+        return first;
+    }
+    if left.len() <= first {
+        return i;
+    }
+    if due[first] < due[i] {
+        return first;
+    }
+    if due[first] != due[i] {
+        return i;
+    }
+    if tasks[first] < tasks[i] {
+        return first;
+    }
+    i
+}
+
+// The place of the job that a supplied slot n serves, or the count of jobs where none waits.
+fn choose(due: &[u32], tasks: &[u32], releases: &[u32], left: &[u32], n: u32) -> usize
+    requires { ⌜ (length (now due) ≡ length (now left)) × (length (now tasks) ≡ length (now left)) × (length (now releases) ≡ length (now left)) ⌝ }
+    ensures { λ r. ⌜ ((ks : List Task) (js : List Job) → map (deadline ks) js ≡ now (due .entry) → map (λ j. j .task) js ≡ now (tasks .entry) → map (λ j. j .release) js ≡ now (releases .entry) → r ≡ next ks n js (now (left .entry))) ⌝ }
+    ensures waiting { λ r. ⌜ (r < length (now (left .entry)) → 0 < getD (now (left .entry)) r 0) ⌝ }
+{
+    let mut first = left.len();
+    let mut i = left.len();
+    while 0 < i {
+        i -= 1;
+        first = first_of(due, tasks, releases, left, n, i, first);
+    }
+    first
+}
+
+// Of a job and the lowest task number among the late ones behind it, the lowest task number that is late at t.
+fn lower_late(due: u32, task: u32, left: u32, t: u32, lowest: u32) -> u32
+    ensures { λ r. ⌜ r ≡ cond ((eqb due t && ltb 0 left) && ltb task lowest) task lowest ⌝ }
+{
+    if due != t {
+        return lowest;
+    }
+    if left <= 0 {
+        return lowest;
+    }
+    if task < lowest {
+        return task;
+    }
+    lowest
+}
+
+// The lowest task number of the jobs late at instant t; 64, which numbers no task, where none is late.
+pub fn late_task(due: &[u32], tasks: &[u32], left: &[u32], t: u32) -> u32
+    requires { ⌜ (length (now due) ≡ length (now left)) × (length (now tasks) ≡ length (now left)) ⌝ }
+    ensures { λ r. ⌜ ((ks : List Task) (js : List Job) → map (deadline ks) js ≡ now (due .entry) → map (λ j. j .task) js ≡ now (tasks .entry) → r ≡ lateTask ks t js (now (left .entry))) ⌝ }
+{
+    let mut lowest = 64;
+    let mut i = left.len();
+    while 0 < i {
+        i -= 1;
+        lowest = lower_late(due[i], tasks[i], left[i], t, lowest);
+    }
+    lowest
+}
+
+// What one slot gives: a unit served, a unit idle, or nothing.
+pub struct Given {
+    pub served: u32,
+    pub idle: u32,
+}
+
+// Slot n with its trace byte: the work left after it, and what it gave.
+pub fn serve_slot(
+    due: &[u32],
+    tasks: &[u32],
+    releases: &[u32],
+    byte: u8,
+    n: u32,
+    left: &mut [u32],
+) -> Given
+    requires { ⌜ (length (now due) ≡ length (now left)) × (length (now tasks) ≡ length (now left)) × (length (now releases) ≡ length (now left)) ⌝ }
+    ensures { λ r. ⌜ ((ks : List Task) (js : List Job) → map (deadline ks) js ≡ now (due .entry) → map (λ j. j .task) js ≡ now (tasks .entry) → map (λ j. j .release) js ≡ now (releases .entry) → Slotted ks js n byte (now (left .entry)) (now (left .exit)) (r .served) (r .idle)) ⌝ }
+    ensures single { λ r. ⌜ r .served + r .idle ≤ 1 ⌝ }
+{
+    if byte == 0 {
+        return Given { served: 0, idle: 0 };
+    }
+    let at = choose(due, tasks, releases, left, n);
+    if left.len() <= at {
+        return Given { served: 0, idle: 1 };
+    }
+    left[at] = left[at] - 1;
+    Given { served: 1, idle: 0 }
+}

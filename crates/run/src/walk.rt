@@ -1,0 +1,74 @@
+// The walk: a run of jobs on a trace, slot by slot, to the first miss or the trace's end.
+use crate::scan::Given;
+use crate::scan::late_task;
+use crate::scan::serve_slot;
+use budget::quantity::Time;
+use budget::quantity::Units;
+use budget::refusal;
+ghost use Prim.Native.Nat.{ℕ, _≤_};
+ghost use mathlib.Core.List.{List, map};
+ghost use mathlib.Core.Path.{_≡_};
+ghost use lib.ListN.{length};
+ghost use Rattle.budget.specs.declared.task.Task.{Task};
+ghost use Rattle.run.specs.Job.{Job, deadline};
+ghost use Rattle.run.specs.Run.{leftAt};
+ghost use Rattle.run.specs.Walk.{missOf, stop, walkedTo};
+
+// The first miss: its instant and its task's number, or none.
+pub enum Miss {
+    None,
+    At(Time, u32),
+}
+
+// What the walk answers; refused: no miss, nothing served, nothing idle.
+pub struct Walked {
+    pub refusal: u16,
+    pub miss: Miss,
+    pub served: Units,
+    pub idle: Units,
+}
+
+// The miss at instant t, by the lowest late task; 64 numbers no task and stands for none.
+fn miss_of(t: u32, late: u32) -> Miss
+    ensures { λ r. ⌜ r ≡ missOf t late ⌝ }
+{
+    if late < 64 {
+        return Miss::At(Time(t), late);
+    }
+    Miss::None
+}
+
+// The walk over the slots. The work left is each job's whole work at first, and its work left at the stop at last.
+fn walk_slots(
+    due: &[u32],
+    tasks: &[u32],
+    releases: &[u32],
+    trace: &[u8],
+    left: &mut [u32],
+) -> Walked
+    requires { ⌜ (length (now due) ≡ length (now left)) × (length (now tasks) ≡ length (now left)) × (length (now releases) ≡ length (now left)) × (length (now trace) ≤ 65536) ⌝ }
+    ensures { λ r. ⌜ ((ks : List Task) (js : List Job) → map (deadline ks) js ≡ now (due .entry) → map (λ j. j .task) js ≡ now (tasks .entry) → map (λ j. j .release) js ≡ now (releases .entry) → map (λ j. j .work) js ≡ now (left .entry) → (r ≡ walkedTo ks js (now (trace .entry)) (stop ks js (now (trace .entry)))) × (now (left .exit) ≡ leftAt ks js (now (trace .entry)) (stop ks js (now (trace .entry))))) ⌝ }
+{
+    let mut t = 0;
+    let mut served = 0;
+    let mut idle = 0;
+    while t < trace.len() {
+        let instant = t as u32;
+        if late_task(due, tasks, left, instant) < 64 {
+            break;
+        }
+        let given = serve_slot(due, tasks, releases, trace[t], instant, left);
+        served += given.served;
+        idle += given.idle;
+        t += 1;
+    }
+    let instant = t as u32;
+    let late = late_task(due, tasks, left, instant);
+    let miss = miss_of(instant, late);
+    Walked {
+        refusal: refusal::NONE,
+        miss,
+        served: Units(served),
+        idle: Units(idle),
+    }
+}
