@@ -2,3 +2,4 @@ pub mod Instants
 pub mod SearchLaws
 pub mod StepLaws
 pub mod StepLoops
+pub mod VerdictLaws

@@ -3,22 +3,24 @@ use Prim.Native.Nat.{ℕ, zero, suc, _+_, _*_, _-_, _≤_, _<_, suc-le-suc}
 use mathlib.Core.Path.{_≡_, refl, sym, _∙_, ap, ap₂, subst}
 use mathlib.Core.Logic.{_⊎_, inl, inr, ⊎-elim}
 use mathlib.Core.Bool.{Bool, true, false, cond}
-use mathlib.Core.List.{List, [], _∷_, _++_}
+use mathlib.Core.List.{List, [], _∷_, _++_, map}
 use lib.Dec.{eqb}
-use lib.ListN.{length, getD, take}
-use lib.Seq.{take-suc, take-length}
+use lib.ListN.{length, getD, take, length-take, length-map}
+use lib.Seq.{take-suc, take-length, getD-take}
 use borrow.Author.Tests.{eq-eqb, ne-eqb}
 use native.Mathlib.Decide.{ℕ-discrete}
 use native.Mathlib.Nat.{add-zero, suc-mul, le-trans, le-of-eq, mul-le-mul, lt-of-lt-of-le}
 use native.Mathlib.Numerals.{lt-of-le-of-ne}
 use native.Mathlib.Omega.{arith}
+use Rattle.budget.specs.declared.task.Table.{Table}
 use Rattle.budget.specs.declared.task.Task.{Task}
 use Rattle.budget.specs.Demand.{demand, jobsBy}
 use Rattle.budget.specs.Limits.{limit, most-tasks}
-use Rattle.budget.specs.Task.{T, C, D, noTask, validTasks}
+use Rattle.budget.specs.Task.{T, C, D, noTask, validTasks, tasksOf}
 use Rattle.budget.proofs.DemandLaws.{jobs-next-after, jobs-same-until, jobs-at-next, jobs-zero, demand-append, demand-zero, demand-bound}
 use Rattle.budget.proofs.Valid.{ValidTask, valid-at}
-use Rattle.judge.specs.Steps.{Column, Passed, Next, Steppable, passed, dueWork}
+use Rattle.judge.specs.declared.steps.Columns.{Columns}
+use Rattle.judge.specs.Steps.{Column, Columned, Passed, Next, Steppable, passed, dueWork}
 
 -- the first deadline of a task after an instant
 abbrev pub nextDeadline : Task → ℕ → ℕ
@@ -187,3 +189,50 @@ module _ (ks : List Task) (v : validTasks ks ≡ true) where
             (λ e. omega arith)
             (λ q. omega (arith, q .2, passed-on (q .0) (q .1), jobs-next-after (getD ks (q .0) noTask) (valid-at ks v (q .0) (q .1)) at))
             (p .least .attained)
+
+-- all that a loop over the instants carries to the instant `at`
+pub record Carried (table : Table) (period work due : List ℕ) (at asked : ℕ) : Type 0 where
+  pub count : length (tasksOf table) ≡ table .count
+  pub periods : Holds (λ k. T k) (tasksOf table) period
+  pub works : Holds (λ k. C k) (tasksOf table) work
+  pub ready : Ready (tasksOf table) due at asked
+
+-- a column of all places, read at the table's tasks
+column-holds : (of : Task → ℕ) (table : Table) (xs : List ℕ) → Column of (table .tasks) most-tasks xs → table .count ≤ most-tasks → Holds of (tasksOf table) xs
+unfolding tasksOf
+column-holds of table xs c few j l =
+    let h : j < table .count = omega (arith, l, length-take (table .count) (table .tasks)) in
+    c .holds j (omega arith) ∙ ap of (sym (getD-take (table .count) (table .tasks) j noTask h))
+
+-- what owning an array of structs tells of its length stands at the structs' parts
+pub length-mapped : (X Y : Type 0) (f : X → Y) (l : List X) (n : ℕ) → length (map f l) ≡ n → length l ≡ n
+length-mapped X Y f l n e = sym (length-map l f) ∙ e
+
+tasks-count : (table : Table) → table .count ≤ most-tasks → length (table .tasks) ≡ most-tasks → length (tasksOf table) ≡ table .count
+unfolding tasksOf
+tasks-count table few long = omega (arith, length-take (table .count) (table .tasks))
+
+module _ (table : Table) (few : table .count ≤ most-tasks) (v : validTasks (tasksOf table) ≡ true) where
+  pub carried-start : (r : Columns) → length (table .tasks) ≡ most-tasks → Columned (table .tasks) r → Carried table (r .period) (r .work) (r .due) 1 0
+  carried-start r long c =
+      record {
+        count = tasks-count table few long;
+        periods = column-holds (λ k. T k) table (r .period) (c .period) few;
+        works = column-holds (λ k. C k) table (r .work) (c .work) few;
+        ready = ready-start (tasksOf table) v (r .due) (c .due .long) (column-holds (λ k. D k) table (r .due) (c .due) few);
+      }
+
+  module _ (period work due : List ℕ) (at asked : ℕ) (h : at ≤ limit) (k : Carried table period work due at asked) where
+    pub carried-steppable : Steppable period work due (table .count) at asked
+    carried-steppable =
+        subst (λ (n : ℕ). Steppable period work due n at asked) (k .count)
+        (ready-steppable (tasksOf table) v period work due (k .periods) (k .works) at asked (k .ready) (omega (arith, k .count)) h)
+
+    pub carried-moved : (after : List ℕ) (sum next : ℕ) → Passed period work due after (table .count) at asked sum next → Moved (tasksOf table) after at sum next
+    carried-moved after sum next p =
+        moved (tasksOf table) v period work due (k .periods) (k .works) at asked (k .ready) h after sum next
+        (subst (λ (n : ℕ). Passed period work due after n at asked sum next) (sym (k .count)) p)
+
+    pub carried-next : (after : List ℕ) (sum next : ℕ) → Passed period work due after (table .count) at asked sum next → Carried table period work after next sum
+    carried-next after sum next p =
+        record { count = k .count; periods = k .periods; works = k .works; ready = carried-moved after sum next p .ready }

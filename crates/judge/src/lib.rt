@@ -1,3 +1,4 @@
 // Verdict, margin and smallest capacity.
 pub mod answer;
 pub mod steps;
+pub mod verdict;

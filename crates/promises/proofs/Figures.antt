@@ -8,7 +8,7 @@ use Rattle.budget.specs.Demand.{demand, jobsBy}
 use Rattle.budget.specs.Interface.{interface}
 use Rattle.budget.specs.Supply.{supply, wholePeriods}
 use Rattle.judge.specs.Search.{smallest}
-use Rattle.judge.specs.Verdict.{verdictOn, firstShort, isShort}
+use Rattle.judge.specs.Verdict.{verdictOn, accepts, firstShort, isShort}
 use Rattle.run.specs.Job.{deadline, taskOf}
 use Rattle.run.specs.Run.{waits, goesBefore, headFirst, next, serve, slot, leftAt, MissAt}
 use Rattle.trace.specs.Legal.{Legal, counted, countedFrom}
@@ -33,6 +33,6 @@ unfolding waits goesBefore headFirst next serve slot leftAt deadline taskOf
 miss = record { place = 0; inside = lit< tt; due = refl; late = lit< tt }
 
 pub figures-hold : Hold figures
-unfolding supply wholePeriods demand jobsBy commonPeriod commonMultiple commonDivisor euclid verdictOn firstShort isShort smallest waits goesBefore headFirst next serve slot leftAt deadline taskOf
+unfolding supply wholePeriods demand jobsBy commonPeriod commonMultiple commonDivisor euclid verdictOn accepts firstShort isShort smallest waits goesBefore headFirst next serve slot leftAt deadline taskOf
 figures-hold =
     (refl, (refl, (refl, (refl, (refl, (refl, (refl, (refl, ((refl, refl), (refl, (refl, ((legal, not-at-start, not-at-three), ((miss, refl), tt)))))))))))))
