@@ -1,1 +1,9 @@
+pub mod Demand3
+pub mod DemandBound
+pub mod EarliestDeadline
 pub mod Figures
+pub mod NoMiss
+pub mod Serving
+pub mod Sums
+pub mod Synchronous
+pub mod Window

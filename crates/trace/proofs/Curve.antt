@@ -11,7 +11,8 @@ use Rattle.budget.specs.Interface.{Π, Θ, Δ}
 use Rattle.budget.specs.Supply.{supply}
 use Rattle.budget.proofs.Valid.{ValidInterface}
 use Rattle.budget.proofs.SupplyLaws.{supply-at-most}
-use Rattle.trace.proofs.Units.{units, units-add, units-most}
+use Rattle.trace.specs.Units.{units}
+use Rattle.trace.proofs.Units.{units-add, units-most}
 
 -- supply is the least over all n, said without a difference
 pub most : (i : Interface) → ValidInterface i → (t n m : ℕ) → t + 2 * Θ i ≤ Π i + Δ i + n * Π i + m → supply i t ≤ n * Θ i + m

@@ -7,11 +7,7 @@ use lib.Seq.{getD-drop}
 use native.Mathlib.Nat.{add-zero, zero-add, add-suc, suc-add, add-assoc, add-le-add, le-refl, le-antisymm, le-of-eq, lt-suc-self, le-step}
 use native.Mathlib.Omega.{arith}
 use Rattle.trace.specs.Legal.{supplied, counted, countedFrom}
-
--- the units that f gives at the n places from x on
-unfoldable pub units : (ℕ → ℕ) → ℕ → ℕ → ℕ
-units f x zero = 0
-units f x (suc n) = units f x n + f (x + n)
+use Rattle.trace.specs.Units.{units}
 
 pub units-add : (f : ℕ → ℕ) (x n m : ℕ) → units f x (n + m) ≡ units f x n + units f (x + n) m
 unfolding units

@@ -14,9 +14,10 @@ use Rattle.budget.specs.Interface.{Π, Θ, Δ}
 use Rattle.budget.specs.Supply.{supply}
 use Rattle.budget.proofs.Valid.{ValidInterface}
 use Rattle.trace.specs.Legal.{zerosAndOnes, supplied, counted, Legal}
+use Rattle.trace.specs.Units.{units}
 use Rattle.trace.proofs.Curve.{window}
 use Rattle.trace.proofs.Periods.{counted-before, counted-at, counted-after, counted-bit, every-period}
-use Rattle.trace.proofs.Units.{units, units-le, units-same, counted-units, supplied-part}
+use Rattle.trace.proofs.Units.{units-le, units-same, counted-units, supplied-part}
 
 -- inside the list no default is read
 getD-inside : (s : List ℕ) (n d e : ℕ) → n < length s → getD s n d ≡ getD s n e

@@ -28,8 +28,9 @@ use Rattle.budget.specs.Supply.{supply}
 use Rattle.budget.proofs.SupplyLaws.{supply-zero, supply-mono, supply-rise, supply-period}
 use Rattle.budget.proofs.Valid.{ValidInterface, and-true}
 use Rattle.trace.specs.Legal.{zerosAndOnes, supplied, Legal}
+use Rattle.trace.specs.Units.{units}
 use Rattle.trace.proofs.Curve.{most, gain}
-use Rattle.trace.proofs.Units.{units, units-same, units-ones, supplied-part}
+use Rattle.trace.proofs.Units.{units-same, units-ones, supplied-part}
 use Rattle.trace.proofs.Windows.{cut-legal}
 
 -- the n slots of f from slot x on

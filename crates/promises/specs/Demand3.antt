@@ -1,0 +1,72 @@
+-- The third demand: what an answer of the judge says of every run, and the run that shows a short answer right.
+use Prim.Native.Nat.{ℕ, _+_, _≤_, _<_}
+use mathlib.Core.Bool.{Bool, true, _&&_}
+use mathlib.Core.List.{List}
+use mathlib.Core.Path.{_≡_}
+use lib.Dec.{leb}
+use lib.ListN.{length}
+use Rattle.budget.specs.declared.interface.Interface.{Interface}
+use Rattle.budget.specs.declared.task.Task.{Task}
+use Rattle.budget.specs.Demand.{demand}
+use Rattle.budget.specs.Interface.{Π, validInterface}
+use Rattle.budget.specs.Supply.{supply}
+use Rattle.budget.specs.Task.{validTasks}
+use Rattle.run.specs.Job.{Job, legalArrival}
+use Rattle.run.specs.Run.{MissAt}
+use Rattle.trace.specs.Legal.{Legal, zerosAndOnes}
+use Rattle.judge.specs.Verdict.{Accepted}
+use Rattle.promises.specs.Serving.{Flow, Rule, UrgentFirst, Window, asked, dueBy, earliestDeadline, unitOf, waitingAt, workOf}
+
+-- a "legal arrival of jobs on any legal supply, begun with no work waiting"
+pub record Run (ks : List Task) (i : Interface) : Type 0 where
+  pub jobs : List Job
+  pub offset : ℕ
+  pub trace : List ℕ
+  pub arrival : legalArrival ks jobs ≡ true
+  pub bits : zerosAndOnes trace ≡ true
+  pub below : offset < Π i
+  pub legal : Legal i offset trace
+
+-- the run misses a deadline at t, at an instant that its trace reaches
+pub record Misses (ks : List Task) (i : Interface) (run : Run ks i) (t : ℕ) : Type 0 where
+  pub reached : t ≤ length (run .trace)
+  pub miss : MissAt ks (run .jobs) (run .trace) t
+
+-- "If it accepts, no legal arrival of jobs on any legal supply, begun with no work waiting, ever misses a deadline"
+abbrev pub NeverMisses : List Task → Interface → Type 0
+NeverMisses ks i = (run : Run ks i) (t : ℕ) → Misses ks i run t → ⊥
+
+-- "If it answers short at an instant, some such run misses exactly then, and none misses earlier"
+pub record MissesFirstAt (ks : List Task) (i : Interface) (t : ℕ) : Type 0 where
+  pub run : Run ks i
+  pub misses : Misses ks i run t
+  pub earliest : (other : Run ks i) (u : ℕ) → u < t → Misses ks i other u → ⊥
+
+-- what stands behind it, first for any rule of service: where the urgent jobs go first, the urgent work that waits is what arrives less
+-- what is given, and at each instant some window that ends there balances
+abbrev pub UrgentWork : Type 0
+UrgentWork =
+    (urgent : Job → Bool) (rule : Rule) (jobs : List Job) (trace : List ℕ) → UrgentFirst urgent jobs rule → zerosAndOnes trace ≡ true
+    → Flow (waitingAt urgent rule jobs trace) (asked urgent jobs) (unitOf trace)
+
+abbrev pub Balance : Type 0
+Balance = (left work unit : ℕ → ℕ) → Flow left work unit → (n : ℕ) → Window left work unit n
+
+-- earliest deadline first is such a rule, with the urgent jobs those due by any one instant
+abbrev pub EarliestDeadlineFirst : Type 0
+EarliestDeadlineFirst = (ks : List Task) (jobs : List Job) (t : ℕ) → UrgentFirst (dueBy ks t) jobs (earliestDeadline ks jobs)
+
+-- the work of the jobs that are released at a or later and due by a + u is at most the demand at u
+abbrev pub WorkWithinDemand : Type 0
+WorkWithinDemand =
+    (ks : List Task) (jobs : List Job) → validTasks ks ≡ true → legalArrival ks jobs ≡ true → (a u : ℕ)
+    → workOf (λ j. leb a (j .release) && dueBy ks (a + u) j) jobs ≤ demand ks u
+
+-- no run misses at t where demand is at most supply up to t
+abbrev pub NoMissWhileFitting : Type 0
+NoMissWhileFitting =
+    (ks : List Task) (i : Interface) → validTasks ks ≡ true → validInterface i ≡ true
+    → (t : ℕ) → ((u : ℕ) → 1 ≤ u → u ≤ t → demand ks u ≤ supply i u) → (run : Run ks i) → Misses ks i run t → ⊥
+
+abbrev pub AcceptedNeverMisses : Type 0
+AcceptedNeverMisses = (ks : List Task) (i : Interface) → validTasks ks ≡ true → validInterface i ≡ true → Accepted ks i → NeverMisses ks i
