@@ -6,3 +6,5 @@ pub mod Tests
 pub mod Answers
 pub mod CommonPeriodLaws
 pub mod Places
+pub mod Within
+pub mod Ranges

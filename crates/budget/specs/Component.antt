@@ -50,6 +50,10 @@ refused = record { number = 0; period = record { 0 = 1 }; capacity = Stated (rec
 unfoldable pub validComponent : Component → Bool
 validComponent c = validInterface (interfaceOf c) && validTasks (tasksOf (c .table))
 
+-- the refusals of a component that stand before any other: more than 64 tasks are 6, then a number outside its range is 9
+unfoldable pub rangeRefusal : Component → ℕ
+rangeRefusal c = cond (ltb most-tasks (c .table .count)) refusal.tasks (cond (validComponent c) refusal.none refusal.range)
+
 -- L of a component
 unfoldable pub commonPeriodOf : Component → ℕ
 commonPeriodOf c = commonPeriod (c .period .0) (tasksOf (c .table))

@@ -1,6 +1,13 @@
+use crate::common_period::common_period;
+use crate::interface::Interface;
+use crate::interface::check_interface;
 use crate::quantity::Time;
 use crate::quantity::Units;
+use crate::refusal;
 use crate::task::Table;
+use crate::task::check_table;
+ghost use mathlib.Core.Path.{_≡_};
+ghost use Rattle.budget.specs.Component.{interfaceOf, rangeRefusal, componentRefusal};
 
 // A component's capacity is either stated or asked.
 pub enum Capacity {
@@ -15,4 +22,44 @@ pub struct Component {
     pub capacity: Capacity,
     pub deadline: Time,
     pub table: Table,
+}
+
+// A component's interface: at the capacity stated, or at 0 where it is asked.
+pub fn interface_of(component: Component) -> Interface
+    ensures { λ r. ⌜ r ≡ interfaceOf component ⌝ }
+{
+    let period = component.period;
+    let deadline = component.deadline;
+    let capacity = component.capacity;
+    match capacity {
+        Capacity::Stated(units) => Interface {
+            period,
+            capacity: units,
+            deadline,
+        },
+        Capacity::Asked => Interface {
+            period,
+            capacity: Units(0),
+            deadline,
+        },
+    }
+}
+
+// The refusals of a component that stand before any other: 6, then 9.
+pub fn check_ranges(component: Component) -> u16
+    ensures { λ r. ⌜ r ≡ rangeRefusal component ⌝ }
+{
+    let table = component.table;
+    let refused = check_table(table);
+    if refused != refusal::NONE {
+        return refused;
+    }
+    check_interface(interface_of(component))
+}
+
+// The refusal of a component: 6, 9, and 10 where its common period is too long.
+pub fn check_component(component: Component) -> u16
+    ensures { λ r. ⌜ r ≡ componentRefusal component ⌝ }
+{
+    common_period(component).refusal
 }

@@ -7,7 +7,6 @@ use native.Mathlib.Nat.{le-trans, le-of-eq}
 use borrow.Author.Needs.{needs}
 use Rattle.budget.specs.declared.task.Task.{Task}
 use Rattle.budget.specs.Limits.{most-tasks}
-use Rattle.budget.specs.Refusal as refusal
 use Rattle.budget.specs.Task.{taskRefusal, validTask, validTasks, tasksOf, noTask}
 use Rattle.budget.proofs.Answers.{passed, failed}
 use Rattle.budget.proofs.Places.{length-mapped, from-place, from-end}

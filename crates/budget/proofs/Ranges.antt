@@ -1,0 +1,74 @@
+-- What a component that is not refused is known to be, and how the refusals of its ranges and of its common period make up its refusal.
+use Prim.Native.Nat.{ℕ, _≤_}
+use mathlib.Core.Path.{_≡_, refl}
+use mathlib.Core.Bool.{Bool, true, false, cond}
+use native.Mathlib.Omega.{arith}
+use lib.Dec.{leb, ltb}
+use borrow.Author.Tests.{ltb-false, le-ltb, leb-true, le-leb}
+use Rattle.budget.specs.declared.component.Component.{Component}
+use Rattle.budget.specs.Component.{interfaceOf, validComponent, rangeRefusal, componentRefusal, commonPeriodOf}
+use Rattle.budget.specs.Interface.{validInterface}
+use Rattle.budget.specs.Limits.{limit, most-tasks}
+use Rattle.budget.specs.Refusal as refusal
+use Rattle.budget.specs.Task.{tasksOf, validTasks}
+use Rattle.budget.proofs.Valid.{both}
+
+-- every number of the component is in its range
+pub record InRange (k : Component) : Type 0 where
+  pub count : k .table .count ≤ most-tasks
+  pub interface : validInterface (interfaceOf k) ≡ true
+  pub tasks : validTasks (tasksOf (k .table)) ≡ true
+
+-- the tests of the ranges, by their outcomes
+abbrev ranges : Bool → Bool → ℕ
+ranges over valid = cond over refusal.tasks (cond valid refusal.none refusal.range)
+
+abbrev refusals : Bool → Bool → Bool → ℕ
+refusals over valid short = cond over refusal.tasks (cond valid (cond short refusal.none refusal.long) refusal.range)
+
+ranges-passed : (over valid : Bool) → ranges over valid ≡ refusal.none → (over ≡ false) × (valid ≡ true)
+ranges-passed true valid e = absurd (omega (arith, e))
+ranges-passed false true e = (refl, refl)
+ranges-passed false false e = absurd (omega (arith, e))
+
+ranges-failed : (over valid short : Bool) → (ranges over valid ≡ refusal.none → ⊥) → refusals over valid short ≡ ranges over valid
+ranges-failed true valid short h = refl
+ranges-failed false true short h = absurd (h refl)
+ranges-failed false false short h = refl
+
+all-passed : (over valid short : Bool) → refusals over valid short ≡ refusal.none → (ranges over valid ≡ refusal.none) × (short ≡ true)
+all-passed true valid short e = absurd (omega (arith, e))
+all-passed false true true e = (refl, refl)
+all-passed false true false e = absurd (omega (arith, e))
+all-passed false false short e = absurd (omega (arith, e))
+
+-- the ranges are not refused exactly where they hold
+pub in-range : (k : Component) → rangeRefusal k ≡ refusal.none → InRange k
+unfolding rangeRefusal validComponent
+in-range k e =
+    let p = ranges-passed (ltb most-tasks (k .table .count)) (validComponent k) e in
+    let v = both (validInterface (interfaceOf k)) _ (p .1) in
+    record { count = ltb-false _ _ (p .0); interface = v .0; tasks = v .1 }
+
+pub range-in : (k : Component) → InRange k → rangeRefusal k ≡ refusal.none
+unfolding rangeRefusal validComponent
+range-in k v = rw (le-ltb _ _ (v .count), v .interface, v .tasks)
+
+-- what the ranges are refused for the component is refused for; else its common period decides
+pub refused-range : (k : Component) → (rangeRefusal k ≡ refusal.none → ⊥) → componentRefusal k ≡ rangeRefusal k
+unfolding rangeRefusal componentRefusal
+refused-range k h = ranges-failed (ltb most-tasks (k .table .count)) (validComponent k) (leb (commonPeriodOf k) limit) h
+
+pub refused-period : (k : Component) → InRange k → componentRefusal k ≡ cond (leb (commonPeriodOf k) limit) refusal.none refusal.long
+unfolding componentRefusal validComponent
+refused-period k v = rw (le-ltb _ _ (v .count), v .interface, v .tasks)
+
+-- a component that is not refused is in its ranges and its common period within the limit, and conversely
+pub unrefused : (k : Component) → componentRefusal k ≡ refusal.none → InRange k × (commonPeriodOf k ≤ limit)
+unfolding rangeRefusal componentRefusal
+unrefused k e =
+    let p = all-passed (ltb most-tasks (k .table .count)) (validComponent k) (leb (commonPeriodOf k) limit) e in
+    (in-range k (p .0), leb-true _ _ (p .1))
+
+pub not-refused : (k : Component) → InRange k → commonPeriodOf k ≤ limit → componentRefusal k ≡ refusal.none
+not-refused k v h = rw (refused-period k v, le-leb _ _ h)
