@@ -3,9 +3,9 @@ use Prim.Native.Nat.{ℕ, zero, suc, _+_, _*_, _-_, _≤_, _<_, suc-le-suc}
 use mathlib.Core.Path.{_≡_, refl, sym, _∙_, ap, ap₂, subst}
 use mathlib.Core.Logic.{_⊎_, inl, inr, ⊎-elim}
 use mathlib.Core.Bool.{Bool, true, false, cond}
-use mathlib.Core.List.{List, [], _∷_, _++_, map}
+use mathlib.Core.List.{List, [], _∷_, _++_}
 use lib.Dec.{eqb}
-use lib.ListN.{length, getD, take, length-take, length-map}
+use lib.ListN.{length, getD, take, length-take}
 use lib.Seq.{take-suc, take-length, getD-take}
 use borrow.Author.Tests.{eq-eqb, ne-eqb}
 use native.Mathlib.Decide.{ℕ-discrete}
@@ -18,6 +18,7 @@ use Rattle.budget.specs.Demand.{demand, jobsBy}
 use Rattle.budget.specs.Limits.{limit, most-tasks}
 use Rattle.budget.specs.Task.{T, C, D, noTask, validTasks, tasksOf}
 use Rattle.budget.proofs.DemandLaws.{jobs-next-after, jobs-same-until, jobs-at-next, jobs-zero, demand-append, demand-zero, demand-bound}
+use Rattle.budget.proofs.Places.{places}
 use Rattle.budget.proofs.Valid.{ValidTask, valid-at}
 use Rattle.judge.specs.declared.steps.Columns.{Columns}
 use Rattle.judge.specs.Steps.{Column, Columned, Passed, Next, Steppable, passed, dueWork}
@@ -204,19 +205,15 @@ column-holds of table xs c few j l =
     let h : j < table .count = omega (arith, l, length-take (table .count) (table .tasks)) in
     c .holds j (omega arith) ∙ ap of (sym (getD-take (table .count) (table .tasks) j noTask h))
 
--- what owning an array of structs tells of its length stands at the structs' parts
-pub length-mapped : (X Y : Type 0) (f : X → Y) (l : List X) (n : ℕ) → length (map f l) ≡ n → length l ≡ n
-length-mapped X Y f l n e = sym (length-map l f) ∙ e
-
-tasks-count : (table : Table) → table .count ≤ most-tasks → length (table .tasks) ≡ most-tasks → length (tasksOf table) ≡ table .count
+counted : (table : Table) → table .count ≤ most-tasks → length (table .tasks) ≡ most-tasks → length (tasksOf table) ≡ table .count
 unfolding tasksOf
-tasks-count table few long = omega (arith, length-take (table .count) (table .tasks))
+counted table few long = places (table .count) (table .tasks) (omega arith)
 
 module _ (table : Table) (few : table .count ≤ most-tasks) (v : validTasks (tasksOf table) ≡ true) where
   pub carried-start : (r : Columns) → length (table .tasks) ≡ most-tasks → Columned (table .tasks) r → Carried table (r .period) (r .work) (r .due) 1 0
   carried-start r long c =
       record {
-        count = tasks-count table few long;
+        count = counted table few long;
         periods = column-holds (λ k. T k) table (r .period) (c .period) few;
         works = column-holds (λ k. C k) table (r .work) (c .work) few;
         ready = ready-start (tasksOf table) v (r .due) (c .due .long) (column-holds (λ k. D k) table (r .due) (c .due) few);

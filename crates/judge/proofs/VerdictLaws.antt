@@ -1,19 +1,27 @@
--- The first short instant: what a scan has shown of the instants passed, and what it answers where it stops.
-use Prim.Native.Nat.{ℕ, zero, suc, _≤_, _<_}
+-- The first short instant: what a scan has shown of the instants passed, what it answers where it stops, and why the instants up to L decide.
+use Prim.Native.Nat.{ℕ, zero, suc, _≤_, _<_, suc-le-suc}
 use mathlib.Core.Path.{_≡_, refl, sym, _∙_, ap, subst}
+use mathlib.Core.Bool.{Bool, true, false, cond}
 use mathlib.Core.List.{List}
 use borrow.Author.Tests.{lt-ltb, le-ltb, ltb-true, ltb-false}
 use native.Mathlib.Decide.{decLe}
-use native.Mathlib.Nat.{le-trans, le-of-eq}
+use native.Mathlib.Nat.{le-trans, le-of-eq, le-antisymm, not-le-of-lt, lt-of-not-le, le-of-suc-le-suc}
 use native.Mathlib.Omega.{arith}
 use Rattle.budget.specs.declared.interface.Interface.{Interface}
 use Rattle.budget.specs.declared.task.Task.{Task}
+use Rattle.budget.specs.CommonPeriod.{commonPeriod}
 use Rattle.budget.specs.Demand.{demand}
+use Rattle.budget.specs.Interface.{Π}
 use Rattle.budget.specs.Supply.{supply}
-use Rattle.budget.proofs.SupplyLaws.{supply-mono}
+use Rattle.budget.specs.Task.{validTasks}
+use Rattle.budget.proofs.CommonPeriodLaws.{common-positive, common-divides-at}
+use Rattle.budget.proofs.DemandLaws.{demand-shift}
+use Rattle.budget.proofs.SupplyLaws.{supply-mono, supply-add}
 use Rattle.budget.proofs.Valid.{ValidInterface}
-use Rattle.judge.specs.Search.{smallest}
-use Rattle.judge.specs.Verdict.{ShortAt, isShort, firstShort}
+use Rattle.judge.specs.declared.answer.Verdict.{Verdict}
+use Rattle.judge.specs.declared.answer.Verdict.the-variants as Variant
+use Rattle.judge.specs.Verdict.{Accepted, ShortAt, Judgement, isShort, firstShort, accepts, verdictOn}
+use Rattle.judge.proofs.Instants.{enough}
 use Rattle.judge.proofs.SearchLaws.{Smallest, smallest-is, smallest-only}
 
 -- every instant from 1 and before n fits
@@ -48,3 +56,88 @@ module _ (ks : List Task) (i : Interface) where
       ap suc
       (smallest-only _ n t
       (record { within = omega arith; before = λ j l. le-ltb _ _ (before (suc j) (omega arith) (omega arith)); passes = λ l. lt-ltb _ _ short }))
+
+  -- the first short instant up to n, if there is one, is short and the first
+  first-short-within : (n : ℕ) → 1 ≤ firstShort ks i n
+  unfolding firstShort
+  first-short-within n = omega arith
+
+  first-short-before : (n : ℕ) → FitsBefore ks i (firstShort ks i n)
+  unfolding firstShort isShort
+  first-short-before n zero l h = absurd (omega (arith, l))
+  first-short-before n (suc u) l h = ltb-false _ _ (smallest-is _ n .before u (le-of-suc-le-suc h))
+
+  first-short-short : (n : ℕ) → firstShort ks i n ≤ n → supply i (firstShort ks i n) < demand ks (firstShort ks i n)
+  unfolding firstShort isShort
+  first-short-short n h = ltb-true _ _ (smallest-is _ n .passes h)
+
+  pub accepts-fits : (n : ℕ) → accepts ks i n ≡ true → FitsBefore ks i (suc n)
+  unfolding accepts
+  accepts-fits n e u l h = first-short-before n u l (omega (arith, ltb-true n (firstShort ks i n) e))
+
+  pub fits-accepts : (n : ℕ) → FitsBefore ks i (suc n) → accepts ks i n ≡ true
+  unfolding accepts
+  fits-accepts n fits = rw (first-short-none n (suc n) fits (omega arith)) (lt-ltb n (suc n) (omega arith))
+
+  pub short-refuses : (n : ℕ) → accepts ks i n ≡ false → (firstShort ks i n ≤ n) × ShortAt ks i (firstShort ks i n)
+  unfolding accepts
+  short-refuses n e =
+      let h = ltb-false n (firstShort ks i n) e in
+      (h, record { some = first-short-within n; short = first-short-short n h; first = first-short-before n })
+
+  -- at most one verdict holds
+  not-both : (t : ℕ) → Accepted ks i → ShortAt ks i t → ⊥
+  unfolding Accepted
+  not-both t a s = not-le-of-lt (s .short) (a t (s .some))
+
+  same-instant : (t u : ℕ) → ShortAt ks i t → ShortAt ks i u → t ≡ u
+  same-instant t u s r = split (decLe t u) (decLe u t)
+    where
+      split : Dec (t ≤ u) → Dec (u ≤ t) → t ≡ u
+      split (yes a) (yes b) = le-antisymm a b
+      split (yes a) (no b) = absurd (not-le-of-lt (s .short) (r .first t (s .some) (lt-of-not-le b)))
+      split (no a) b = absurd (not-le-of-lt (r .short) (s .first u (r .some) (lt-of-not-le a)))
+
+  pub one-verdict : (a b : Verdict) → Judgement ks i a → Judgement ks i b → a ≡ b
+  one-verdict Variant.Accepted Variant.Accepted p q = refl
+  one-verdict Variant.Accepted (Variant.Short t) p q = absurd (not-both (t .0) p q)
+  one-verdict Variant.Accepted Variant.None p q = absurd q
+  one-verdict (Variant.Short t) Variant.Accepted p q = absurd (not-both (t .0) q p)
+  one-verdict (Variant.Short t) (Variant.Short u) p q = ap (λ (n : ℕ). Variant.Short (record { 0 = n })) (same-instant (t .0) (u .0) p q)
+  one-verdict (Variant.Short t) Variant.None p q = absurd q
+  one-verdict Variant.None b p q = absurd p
+
+-- for a component's tasks on an interface within the limits, L decides
+module _ (ks : List Task) (v : validTasks ks ≡ true) (i : Interface) (w : ValidInterface i) where
+  period-some : 1 ≤ Π i
+  period-some = omega (arith, w .some, w .within)
+
+  -- "Accepted: for every t ≥ 1, demand ≤ supply", with no limit on t: fitting up to L is enough
+  pub accepted-unlimited : ((t : ℕ) → 1 ≤ t → t ≤ commonPeriod (Π i) ks → demand ks t ≤ supply i t) → Accepted ks i
+  unfolding Accepted
+  accepted-unlimited =
+      enough (demand ks) (supply i) (commonPeriod (Π i) ks) (common-positive (Π i) ks period-some v)
+      (demand-shift ks v (commonPeriod (Π i) ks) (common-divides-at (Π i) ks period-some v))
+      (supply-add i w)
+
+  pub accepts-accepted : accepts ks i (commonPeriod (Π i) ks) ≡ true → Accepted ks i
+  accepts-accepted e = accepted-unlimited (λ t l h. accepts-fits ks i (commonPeriod (Π i) ks) e t l (suc-le-suc h))
+
+  -- the verdict worked out up to L is the right one
+  pub verdict-right : Judgement ks i (verdictOn ks i (commonPeriod (Π i) ks))
+  unfolding verdictOn
+  verdict-right = pick (accepts ks i (commonPeriod (Π i) ks)) refl
+    where
+      pick : (b : Bool) → accepts ks i (commonPeriod (Π i) ks) ≡ b → Judgement ks i (cond b Variant.Accepted (Variant.Short (record { 0 = firstShort ks i (commonPeriod (Π i) ks) })))
+      pick true e = accepts-accepted e
+      pick false e = short-refuses ks i (commonPeriod (Π i) ks) e .1
+
+  -- "That instant, if any, is at most L"
+  pub short-within : (t : ℕ) → ShortAt ks i t → t ≤ commonPeriod (Π i) ks
+  short-within t s = pick (accepts ks i (commonPeriod (Π i) ks)) refl
+    where
+      pick : (b : Bool) → accepts ks i (commonPeriod (Π i) ks) ≡ b → t ≤ commonPeriod (Π i) ks
+      pick true e = absurd (not-both ks i t (accepts-accepted e) s)
+      pick false e =
+          let r = short-refuses ks i (commonPeriod (Π i) ks) e in
+          le-trans (le-of-eq (same-instant ks i t _ s (r .1))) (r .0)

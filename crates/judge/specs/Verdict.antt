@@ -12,7 +12,7 @@ use Rattle.budget.specs.Interface.{validInterface}
 use Rattle.budget.specs.Limits.{limit, most-tasks}
 use Rattle.budget.specs.Supply.{supply}
 use Rattle.budget.specs.Task.{tasksOf, validTasks}
-use Rattle.judge.specs.declared.answer.Verdict as Variant
+use Rattle.judge.specs.declared.answer.Verdict.the-variants as Variant
 use Rattle.judge.specs.declared.answer.Verdict.{Verdict}
 use Rattle.judge.specs.Search.{smallest}
 
@@ -25,6 +25,12 @@ pub record ShortAt (ks : List Task) (i : Interface) (t : ℕ) : Type 0 where
   pub some : 1 ≤ t
   pub short : supply i t < demand ks t
   pub first : (u : ℕ) → 1 ≤ u → u < t → demand ks u ≤ supply i u
+
+-- what each verdict on a stated capacity says; "none" is no answer there
+abbrev pub Judgement : List Task → Interface → Verdict → Type 0
+Judgement ks i Variant.Accepted = Accepted ks i
+Judgement ks i (Variant.Short t) = ShortAt ks i (t .0)
+Judgement ks i Variant.None = ⊥
 
 -- demand exceeds supply at t
 unfoldable pub isShort : List Task → Interface → ℕ → Bool
@@ -40,7 +46,7 @@ accepts ks i n = ltb n (firstShort ks i n)
 
 -- the verdict on a stated capacity, worked out over the instants up to L: "That instant, if any, is at most L"
 unfoldable pub verdictOn : List Task → Interface → ℕ → Verdict
-verdictOn ks i l = cond (accepts ks i l) Variant.the-variants.Accepted (Variant.the-variants.Short (record { 0 = firstShort ks i l }))
+verdictOn ks i l = cond (accepts ks i l) Variant.Accepted (Variant.Short (record { 0 = firstShort ks i l }))
 
 -- what a scan of the instants up to n is asked with: numbers in their ranges
 pub record Scannable (table : Table) (i : Interface) (n : ℕ) : Type 0 where

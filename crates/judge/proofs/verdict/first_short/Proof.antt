@@ -10,8 +10,9 @@ use Rattle.budget.specs.Limits.{limit}
 use Rattle.budget.specs.Supply.{supply}
 use Rattle.budget.specs.Task.{tasksOf}
 use Rattle.budget.proofs.Answers.{supply-given}
+use Rattle.budget.proofs.Places.{length-mapped}
 use Rattle.budget.proofs.Valid.{valid-interface}
-use Rattle.judge.proofs.StepLaws.{length-mapped, Carried, Moved, carried-start, carried-steppable, carried-moved, carried-next}
+use Rattle.judge.proofs.StepLaws.{Carried, Moved, carried-start, carried-steppable, carried-moved, carried-next}
 use Rattle.judge.proofs.VerdictLaws.{FitsBefore, fits-start, fits-on, first-short-none, first-short-here}
 use Rattle.judge.proofs.verdict.first_short.Statement.{statement}
 use Rattle.judge.proofs.verdict.first_short.Tie as tie
