@@ -1,1 +1,4 @@
 // The budget sheet: records, reader, parts, writer.
+pub mod check;
+pub mod field;
+pub mod layout;

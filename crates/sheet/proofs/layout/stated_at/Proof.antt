@@ -1,0 +1,34 @@
+use Rattle.sheet.specs.Layout.{ofSize, ofKind, recordOf, statedAt, askedAt, taskAt}
+use borrow.Author.Needs.{needs}
+use Rattle.sheet.proofs.layout.stated_at.Statement.{statement}
+use Rattle.sheet.proofs.layout.stated_at.Tie as tie
+use Rattle.sheet.proofs.layout.stated_at.Reads as reads
+use Rattle.sheet.proofs.layout.stated_at.Lts as lts
+use Rattle.sheet.proofs.field.number_at.Reads as number-at-reads
+use Rattle.sheet.proofs.field.time_at.Reads as time-at-reads
+
+-- src/layout.rt:35:9
+number-at-requires : tie.Need-number-at-requires
+number-at-requires c κs = search needs
+
+-- src/layout.rt:36:23
+time-at-requires : tie.Need-time-at-requires
+time-at-requires c κs = search needs
+
+-- src/layout.rt:37:43
+time-at-requires-2 : tie.Need-time-at-requires-2
+time-at-requires-2 c κs = search needs
+
+-- src/layout.rt:38:25
+time-at-requires-3 : tie.Need-time-at-requires-3
+time-at-requires-3 c κs = search needs
+
+-- src/layout.rt:31:1
+returns : tie.Need-returns
+unfolding statedAt
+returns c = cc
+
+pub stated-at-spec : {M : Type 1} → statement M
+stated-at-spec =
+    tie.close
+    (tie.spec number-at-requires time-at-requires time-at-requires-2 time-at-requires-3 returns)

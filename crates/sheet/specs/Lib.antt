@@ -1,0 +1,4 @@
+pub mod Field
+pub mod Layout
+pub mod Check
+pub mod Part

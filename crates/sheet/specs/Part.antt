@@ -1,0 +1,43 @@
+-- "the part of the caller's sheet that holds one component's records, chosen by its place in the sheet, from 0"
+use Prim.Native.Nat.{ℕ, zero, suc, _-_}
+use mathlib.Core.Bool.{Bool, true, false, cond}
+use mathlib.Core.List.{List, []}
+use lib.ListN.{length, take, drop}
+use lib.Dec.{leb, ltb, eqb}
+use Rattle.budget.specs.Refusal as refusal
+use Rattle.sheet.specs.declared.check.Checked.{Checked}
+use Rattle.sheet.specs.declared.check.Span.{Span}
+use Rattle.sheet.specs.declared.check.State.{State}
+use Rattle.sheet.specs.Check.{check, start, step}
+
+-- what a step from one state to the next tells of the component at place k: it has not begun, it begins here, it goes on to here, or it is past
+unfoldable pub marked : ℕ → State → State → Span → Span
+marked k st next span =
+    cond (leb (next .count) k) span
+    (cond (leb (st .count) k) (record { from = st .place; to = next .place })
+    (cond (eqb (next .count - 1) k) (record { from = span .from; to = next .place }) span))
+
+-- where the records of the component at place k lie, noted along the walk
+unfoldable pub noted : ℕ → List ℕ → ℕ → State → Span → Span
+noted zero s k st span = span
+noted (suc more) s k st span = elim (st .going) [ true ↦ noted more s k (step s st) (marked k st (step s st) span) | false ↦ span ]
+
+abbrev pub noSpan : Span
+noSpan = record { from = 0; to = 0 }
+
+unfoldable pub spanOf : List ℕ → ℕ → Span
+spanOf s k = noted (suc (length s)) s k start noSpan
+
+-- "Handing back a part or reading one component: sheet, 15"
+unfoldable pub partCheck : List ℕ → ℕ → Checked
+partCheck s k =
+    cond (eqb (check s .refusal) refusal.none)
+    (cond (ltb k (check s .count)) (check s) (record { refusal = refusal.place; place = 0; count = 0 }))
+    (check s)
+
+-- from the component's record to its last task, or nothing where refused
+unfoldable pub partOf : List ℕ → ℕ → List ℕ
+partOf s k =
+    cond (eqb (partCheck s k .refusal) refusal.none)
+    (take (spanOf s k .to - spanOf s k .from) (drop (spanOf s k .from) s))
+    []
