@@ -38,6 +38,12 @@ unfoldable pub headSize : Capacity → ℕ
 headSize (Stated u) = 18
 headSize Asked = 14
 
+unfoldable pub sizeOf : Record → ℕ
+sizeOf (ComponentRecord h) = headSize (h .capacity)
+sizeOf (TaskRecord k) = 16
+sizeOf (EndRecord count) = 6
+sizeOf (NoRecord n) = 0
+
 -- what the bytes say, of a record of each kind
 unfoldable pub statedAt : List ℕ → Head
 statedAt s =

@@ -1,14 +1,16 @@
 -- "the part of the caller's sheet that holds one component's records, chosen by its place in the sheet, from 0"
-use Prim.Native.Nat.{ℕ, zero, suc, _-_}
+use Prim.Native.Nat.{ℕ, zero, suc, _-_, _≤_}
 use mathlib.Core.Bool.{Bool, true, false, cond}
 use mathlib.Core.List.{List, []}
+use mathlib.Core.Path.{_≡_}
 use lib.ListN.{length, take, drop}
 use lib.Dec.{leb, ltb, eqb}
 use Rattle.budget.specs.Refusal as refusal
 use Rattle.sheet.specs.declared.check.Checked.{Checked}
 use Rattle.sheet.specs.declared.check.Span.{Span}
 use Rattle.sheet.specs.declared.check.State.{State}
-use Rattle.sheet.specs.Check.{check, start, step}
+use Rattle.sheet.specs.declared.check.Walked.{Walked}
+use Rattle.sheet.specs.Check.{check, start, step, walk}
 
 -- what a step from one state to the next tells of the component at place k: it has not begun, it begins here, it goes on to here, or it is past
 unfoldable pub marked : ℕ → State → State → Span → Span
@@ -41,3 +43,10 @@ partOf s k =
     cond (eqb (partCheck s k .refusal) refusal.none)
     (take (spanOf s k .to - spanOf s k .from) (drop (spanOf s k .from) s))
     []
+
+-- what the one walk over a sheet finds
+pub record Found (s : List ℕ) (k : ℕ) (w : Walked) : Type 0 where
+  pub state : w .state ≡ walk (suc (length s)) s start
+  pub span : w .span ≡ spanOf s k
+  pub order : w .span .from ≤ w .span .to
+  pub within : w .span .to ≤ length s

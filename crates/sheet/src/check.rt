@@ -10,12 +10,12 @@ use budget::refusal;
 use budget::task::Task;
 use budget::task::check_task;
 ghost use mathlib.Core.Path.{_≡_};
-ghost use Prim.Native.Nat.{ℕ, suc, _+_, _≤_, _<_, _-_};
+ghost use Prim.Native.Nat.{_+_, _≤_, _<_};
 ghost use lib.ListN.{length};
 ghost use Rattle.budget.specs.Component.{unitsOf};
-ghost use Rattle.sheet.specs.Layout.{headSize};
-ghost use Rattle.sheet.specs.Check.{start, refuse, ranged, headRefusal, afterHead, afterTask, judgedHead, judgedTask, judgedEnd, judged, step, walk, check, checkedOf};
-ghost use Rattle.sheet.specs.Part.{marked, noted};
+ghost use Rattle.sheet.specs.Layout.{headSize, sizeOf};
+ghost use Rattle.sheet.specs.Check.{refuse, ranged, headRefusal, afterHead, afterTask, judgedHead, judgedTask, judgedEnd, judged, step, check, checkedOf};
+ghost use Rattle.sheet.specs.Part.{marked, Found};
 
 // Most bytes of a sheet, and most components.
 pub const MOST_BYTES: usize = 65_536;
@@ -184,4 +184,109 @@ fn judge_end(state: State, count: u16, left: usize) -> State
         return refuse(refusal::END, state);
     }
     refuse(refusal::NONE, state)
+}
+
+fn judge(state: State, record: Record, left: usize) -> State
+    requires { ⌜ state .place + sizeOf «record» ≤ 65_536 ⌝ }
+    ensures { λ r. ⌜ r ≡ judged state «record» left ⌝ }
+{
+    match record {
+        Record::ComponentRecord(head) => judge_head(state, head),
+        Record::TaskRecord(task) => judge_task(state, task),
+        Record::EndRecord(count) => judge_end(state, count, left),
+        Record::NoRecord(number) => refuse(number, state),
+    }
+}
+
+fn step(sheet: &[u8], state: State) -> State
+    requires { ⌜ (state .place ≤ length (now sheet)) × (length (now sheet) ≤ 65_536) ⌝ }
+    ensures { λ r. ⌜ r ≡ step (now (sheet .entry)) state ⌝ }
+{
+    let place = state.place;
+    let rest = &sheet[place..];
+    let left = rest.len();
+    let record = record_of(rest);
+    judge(state, record, left)
+}
+
+fn mark(wanted: usize, state: State, next: State, span: Span) -> Span
+    ensures { λ r. ⌜ r ≡ marked wanted state next span ⌝ }
+{
+    let reached = next.count;
+    if reached <= wanted {
+        return span;
+    }
+    let before = state.count;
+    if before <= wanted {
+        return Span {
+            from: state.place,
+            to: next.place,
+        };
+    }
+    let last = reached - 1;
+    if last == wanted {
+        return Span {
+            from: span.from,
+            to: next.place,
+        };
+    }
+    span
+}
+
+// The one walk over a sheet's bytes: how it ends, and where the records of the component at one place lie.
+pub fn walk(sheet: &[u8], wanted: usize) -> Walked
+    requires { ⌜ length (now sheet) ≤ 65_536 ⌝ }
+    ensures { λ r. ⌜ Found (now (sheet .entry)) wanted r ⌝ }
+{
+    let mut state = State {
+        going: true,
+        refusal: refusal::NONE,
+        place: 0,
+        count: 0,
+        lowest: 0,
+        tasks: 0,
+    };
+    let mut span = Span { from: 0, to: 0 };
+    let mut going = true;
+    while going {
+        let next = step(sheet, state);
+        span = mark(wanted, state, next, span);
+        state = next;
+        going = next.going;
+    }
+    Walked { state, span }
+}
+
+fn checked_of(state: State) -> Checked
+    ensures { λ r. ⌜ r ≡ checkedOf state ⌝ }
+{
+    let number = state.refusal;
+    if number == refusal::NONE {
+        return Checked {
+            refusal: refusal::NONE,
+            place: 0,
+            count: state.count,
+        };
+    }
+    Checked {
+        refusal: number,
+        place: state.place,
+        count: 0,
+    }
+}
+
+// Judges a sheet: its count of components, or the refusal's number and the byte where the record began.
+pub fn check_sheet(sheet: &[u8]) -> Checked
+    ensures { λ r. ⌜ r ≡ check (now (sheet .entry)) ⌝ }
+{
+    if MOST_BYTES < sheet.len() {
+        return Checked {
+            refusal: refusal::SHEET,
+            place: 0,
+            count: 0,
+        };
+    }
+    let found = walk(sheet, 0);
+    let state = found.state;
+    checked_of(state)
 }

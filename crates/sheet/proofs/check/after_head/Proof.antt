@@ -1,32 +1,24 @@
-use Rattle.sheet.specs.Check.{start, refuse, ended, ranged, headRefusal, afterHead, judgedHead, afterTask, judgedTask, judgedEnd, judged, step, walk, checkedOf, check}
+-- The state is the one that the definition builds, at the size that was asked.
+use Rattle.sheet.specs.Check.{afterHead}
 use borrow.Author.Needs.{needs}
 use Rattle.sheet.proofs.check.after_head.Statement.{statement}
 use Rattle.sheet.proofs.check.after_head.Tie as tie
-use Rattle.sheet.proofs.check.after_head.Reads as reads
-use Rattle.sheet.proofs.check.after_head.Lts as lts
-use Rattle.sheet.proofs.check.head_size.Reads as head-size-reads
 
--- src/check.rt:115:9
 head-size-requires : tie.Need-head-size-requires
 head-size-requires c κs = search needs
 
--- src/check.rt:119:16
 add-t6 : tie.Need-add-t6
 add-t6 c = search needs
 
--- src/check.rt:120:16
 add-t7 : tie.Need-add-t7
 add-t7 c = search needs
 
--- src/check.rt:121:17
 cast-t8 : tie.Need-cast-t8
 cast-t8 c = search needs
 
--- src/check.rt:121:17
 add-t9 : tie.Need-add-t9
 add-t9 c = search needs
 
--- src/check.rt:109:1
 returns : tie.Need-returns
 unfolding afterHead
 returns c = cc

@@ -1,24 +1,19 @@
+-- Each case is the definition at that case.
 use Rattle.sheet.specs.Layout.{headSize}
 use borrow.Author.Needs.{needs}
 use Rattle.sheet.proofs.check.head_size.Statement.{statement}
 use Rattle.sheet.proofs.check.head_size.Tie as tie
-use Rattle.sheet.proofs.check.head_size.Reads as reads
-use Rattle.sheet.proofs.check.head_size.Lts as lts
 
--- src/check.rt:79:32
 enum-told : tie.Need-enum-told
 enum-told c = search needs
 
--- src/check.rt:80:28
 enum-told-2 : tie.Need-enum-told-2
 enum-told-2 c = search needs
 
--- src/check.rt:75:1
 returns : tie.Need-returns
 unfolding headSize
 returns c = search needs
 
--- src/check.rt:75:1
 returns-2 : tie.Need-returns-2
 unfolding headSize
 returns-2 c = search needs

@@ -1,29 +1,21 @@
-use Rattle.sheet.specs.Layout.{ofSize, ofKind, recordOf, statedAt, askedAt, taskAt}
+-- Each field is the one that the definition names.
+use Rattle.sheet.specs.Layout.{statedAt}
 use borrow.Author.Needs.{needs}
 use Rattle.sheet.proofs.layout.stated_at.Statement.{statement}
 use Rattle.sheet.proofs.layout.stated_at.Tie as tie
-use Rattle.sheet.proofs.layout.stated_at.Reads as reads
-use Rattle.sheet.proofs.layout.stated_at.Lts as lts
-use Rattle.sheet.proofs.field.number_at.Reads as number-at-reads
-use Rattle.sheet.proofs.field.time_at.Reads as time-at-reads
 
--- src/layout.rt:35:9
 number-at-requires : tie.Need-number-at-requires
 number-at-requires c κs = search needs
 
--- src/layout.rt:36:23
 time-at-requires : tie.Need-time-at-requires
 time-at-requires c κs = search needs
 
--- src/layout.rt:37:43
 time-at-requires-2 : tie.Need-time-at-requires-2
 time-at-requires-2 c κs = search needs
 
--- src/layout.rt:38:25
 time-at-requires-3 : tie.Need-time-at-requires-3
 time-at-requires-3 c κs = search needs
 
--- src/layout.rt:31:1
 returns : tie.Need-returns
 unfolding statedAt
 returns c = cc

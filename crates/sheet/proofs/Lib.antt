@@ -1,0 +1,4 @@
+pub mod Figures
+pub mod Cases
+pub mod RecordLaws
+pub mod WalkLaws
