@@ -7,9 +7,9 @@ use mathlib.Core.List.{List}
 use mathlib.Core.Path.{_≡_, refl}
 use lib.Dec.{leb, ltb}
 use lib.ListN.{length, getD}
-use borrow.Author.Tests.{leb-true, le-leb, lt-ltb}
+use borrow.Author.Tests.{ltb-true, leb-true, le-leb, lt-ltb}
 use native.Mathlib.Decide.{decLe}
-use native.Mathlib.Nat.{le-trans, le-of-eq, le-dest}
+use native.Mathlib.Nat.{zero-add, not-suc-le-zero, le-trans, le-of-eq, le-dest}
 use native.Mathlib.Omega.{arith}
 use Rattle.budget.specs.declared.interface.Interface.{Interface}
 use Rattle.budget.specs.declared.task.Task.{Task}
@@ -26,7 +26,7 @@ use Rattle.promises.specs.Serving.{asked, dueBy, earliestDeadline, leftB
 use Rattle.promises.proofs.DemandBound.{arrival-at, work-within-demand}
 use Rattle.promises.proofs.EarliestDeadline.{earliest-first, left-at-by}
 use Rattle.promises.proofs.Serving.{flow, left-falls}
-use Rattle.promises.proofs.Sums.{left-at, left-found, work-below-or-from, work-by-key, work-le}
+use Rattle.promises.proofs.Sums.{left-at, left-found, work-below-or-from, work-by-key, work-le, work-none}
 use Rattle.promises.proofs.Window.{window, arrived}
 
 fits-or-none : (ks : List Task) → validTasks ks ≡ true → (i : Interface) (t : ℕ) → ((u : ℕ) → 1 ≤ u → u ≤ t → demand ks u ≤ supply i u)
@@ -41,6 +41,18 @@ asked-from urgent js a n =
     let sum = work-by-key (λ j. j .release) urgent js a n in
     let parts = work-below-or-from (λ j. j .release) urgent js a in
     let fewer = work-le (λ j. ltb (j .release) (a + n) && urgent j) urgent js (λ q l h. both (ltb ((getD js q noJob) .release) (a + n)) _ h .1) in
+    omega arith
+
+-- and by t it is all the urgent work, where every urgent job is released before t
+pub asked-all : (urgent : Job → Bool) (js : List Job) (t : ℕ) → ((q : ℕ) → q < length js → urgent (getD js q noJob) ≡ true → (getD js q noJob) .release < t)
+    → workOf urgent js ≤ units (asked urgent js) 0 t
+unfolding asked
+asked-all urgent js t before =
+    let sum = work-by-key (λ j. j .release) urgent js 0 t in
+    let none = work-none (λ j. ltb (j .release) 0 && urgent j) js
+    (λ q l h. not-suc-le-zero (ltb-true ((getD js q noJob) .release) 0 (both (ltb ((getD js q noJob) .release) 0) _ h .0))) in
+    let all = work-le urgent (λ j. ltb (j .release) (0 + t) && urgent j) js
+    (λ q l h. and-true (lt-ltb ((getD js q noJob) .release) (0 + t) (rw zero-add (before q l h))) h) in
     omega arith
 
 module _ (ks : List Task) (valid : validTasks ks ≡ true) (js : List Job) (arrival : legalArrival ks js ≡ true) where
@@ -96,6 +108,9 @@ module _ (ks : List Task) (valid : validTasks ks ≡ true) (js : List Job) (arri
         let still : 0 < getD (left (u + d .0)) (f .place) 0 = rw (d .1) (f .some) in
         (u, due, record { place = f .place; inside = f .inside; due = refl; late = rw left-at-by (le-trans still (left-falls (earliestDeadline ks js) js s u (d .0) (f .place))) })
 
-    -- fewer units than work asked by t leave some of it
-    pub too-few : (t : ℕ) → units (unitOf s) 0 t < units (asked (dueBy ks t) js) 0 t → 0 < waitingAt (dueBy ks t) (earliestDeadline ks js) js s t
-    too-few t h = omega (arith, arrived _ _ _ (flow (earliestDeadline ks js) js s (dueBy ks t) (earliest-first ks js t) bits) t)
+    -- fewer units than the work due by t leave some of it
+    pub too-few : (t : ℕ) → units (unitOf s) 0 t < workOf (dueBy ks t) js → 0 < waitingAt (dueBy ks t) (earliestDeadline ks js) js s t
+    unfolding dueBy
+    too-few t h =
+        let all = asked-all (dueBy ks t) js t (λ q l e. le-trans (released-before q l) (leb-true _ _ e)) in
+        omega (arith, arrived _ _ _ (flow (earliestDeadline ks js) js s (dueBy ks t) (earliest-first ks js t) bits) t)

@@ -14,8 +14,10 @@ use Rattle.budget.specs.Task.{validTasks}
 use Rattle.run.specs.Job.{Job, legalArrival}
 use Rattle.run.specs.Run.{MissAt}
 use Rattle.trace.specs.Legal.{Legal, zerosAndOnes}
-use Rattle.judge.specs.Verdict.{Accepted}
+use Rattle.trace.proofs.WorstTrace.{worstTrace}
+use Rattle.judge.specs.Verdict.{Accepted, ShortAt}
 use Rattle.promises.specs.Serving.{Flow, Rule, UrgentFirst, Window, asked, dueBy, earliestDeadline, unitOf, waitingAt, workOf}
+use Rattle.promises.specs.Synchronous.{synchronous}
 
 -- a "legal arrival of jobs on any legal supply, begun with no work waiting"
 pub record Run (ks : List Task) (i : Interface) : Type 0 where
@@ -36,9 +38,12 @@ pub record Misses (ks : List Task) (i : Interface) (run : Run ks i) (t : ℕ) : 
 abbrev pub NeverMisses : List Task → Interface → Type 0
 NeverMisses ks i = (run : Run ks i) (t : ℕ) → Misses ks i run t → ⊥
 
--- "If it answers short at an instant, some such run misses exactly then, and none misses earlier"
+-- "If it answers short at an instant, some such run misses exactly then, and none misses earlier": the run is the synchronous arrival on
+-- the worst trace
 pub record MissesFirstAt (ks : List Task) (i : Interface) (t : ℕ) : Type 0 where
   pub run : Run ks i
+  pub jobs : run .jobs ≡ synchronous ks t
+  pub trace : run .trace ≡ worstTrace i t
   pub misses : Misses ks i run t
   pub earliest : (other : Run ks i) (u : ℕ) → u < t → Misses ks i other u → ⊥
 
@@ -70,3 +75,7 @@ NoMissWhileFitting =
 
 abbrev pub AcceptedNeverMisses : Type 0
 AcceptedNeverMisses = (ks : List Task) (i : Interface) → validTasks ks ≡ true → validInterface i ≡ true → Accepted ks i → NeverMisses ks i
+
+abbrev pub ShortMissesThen : Type 0
+ShortMissesThen =
+    (ks : List Task) (i : Interface) → validTasks ks ≡ true → validInterface i ≡ true → (t : ℕ) → ShortAt ks i t → MissesFirstAt ks i t
