@@ -1,4 +1,4 @@
-pub mod Checks
+pub mod JobRules
 pub mod Next
 pub mod Scans
 pub mod Slots

@@ -1,1 +1,133 @@
 // The rules of the run for a list of jobs, given as the lists of their tasks, releases and works.
+use budget::task::Table;
+ghost use Prim.Native.Nat.{ℕ, suc, _+_, _≤_, _<_};
+ghost use mathlib.Core.Bool.{not, _&&_, _||_};
+ghost use mathlib.Core.List.{List, map};
+ghost use mathlib.Core.Path.{_≡_};
+ghost use lib.Dec.{leb, eqb};
+ghost use lib.ListN.{length, getD, drop};
+ghost use Rattle.budget.specs.declared.task.Task.{Task};
+ghost use Rattle.budget.specs.Limits.{most-tasks};
+ghost use Rattle.budget.specs.Task.{T, tasksOf};
+ghost use Rattle.run.specs.Job.{Job, taskOf, validJob, beforeAll, legalArrival};
+ghost use Rattle.run.specs.Run.{noJob};
+ghost use Rattle.run.specs.Scan.{follows};
+ghost use Rattle.run.specs.Walk.{jobsOf, releasedBefore, validJobs};
+
+// The most jobs that a walk takes.
+const MOST: usize = 1_024;
+
+// Whether releases of one task are at least its period apart. The sum may pass a u32, so it is taken in a u64.
+fn apart(period: u32, task: u32, release: u32, later_task: u32, later_release: u32) -> bool
+    ensures { λ r. ⌜ r ≡ (not (eqb task «later_task») || leb (release + period) «later_release») ⌝ }
+{
+    if task != later_task {
+        return true;
+    }
+    release as u64 + period as u64 <= later_release as u64
+}
+
+// Whether a job and a later one are in order of release and then task, and apart.
+fn follows(period: u32, task: u32, release: u32, later_task: u32, later_release: u32) -> bool
+    ensures { λ r. ⌜ r ≡ follows period task release «later_task» «later_release» ⌝ }
+{
+    if release < later_release {
+        return apart(period, task, release, later_task, later_release);
+    }
+    if release != later_release {
+        return false;
+    }
+    if later_task < task {
+        return false;
+    }
+    apart(period, task, release, later_task, later_release)
+}
+
+// Whether job i, of a task with that period, and every job after it are in order and apart.
+fn spaced(period: u32, tasks: &[u32], releases: &[u32], i: usize) -> bool
+    requires { ⌜ (length (now releases) ≡ length (now tasks)) × (i < length (now tasks)) ⌝ }
+    ensures { λ r. ⌜ ((ks : List Task) (js : List Job) → map (λ j. j .task) js ≡ now (tasks .entry) → map (λ j. j .release) js ≡ now (releases .entry) → T (taskOf ks (getD js i noJob)) ≡ period → r ≡ beforeAll ks (getD js i noJob) (drop (suc i) js)) ⌝ }
+{
+    let task = tasks[i];
+    let release = releases[i];
+    let mut k = i + 1;
+    while k < tasks.len() {
+        if !follows(period, task, release, tasks[k], releases[k]) {
+            return false;
+        }
+        k += 1;
+    }
+    true
+}
+
+// Whether job i keeps the rules: its task is there, its work is 1 to C, and the jobs after it are in order and apart.
+fn legal_job(table: Table, tasks: &[u32], releases: &[u32], works: &[u32], i: usize) -> bool
+    requires { ⌜ (table .count ≤ most-tasks) × (length (now releases) ≡ length (now tasks)) × (length (now works) ≡ length (now tasks)) × (i < length (now tasks)) ⌝ }
+    ensures { λ r. ⌜ ((js : List Job) → map (λ j. j .task) js ≡ now (tasks .entry) → map (λ j. j .release) js ≡ now (releases .entry) → map (λ j. j .work) js ≡ now (works .entry) → r ≡ (validJob (tasksOf table) (getD js i noJob) && beforeAll (tasksOf table) (getD js i noJob) (drop (suc i) js))) ⌝ }
+{
+    let work = works[i];
+    let place = tasks[i] as usize;
+    let count = table.count;
+    if count <= place {
+        return false;
+    }
+    if work < 1 {
+        return false;
+    }
+    let all = table.tasks;
+    let task = all[place];
+    let most = task.work.0;
+    if most < work {
+        return false;
+    }
+    spaced(task.period.0, tasks, releases, i)
+}
+
+// Whether the jobs are a legal arrival.
+fn legal_jobs(table: Table, tasks: &[u32], releases: &[u32], works: &[u32]) -> bool
+    requires { ⌜ (table .count ≤ most-tasks) × (length (now releases) ≡ length (now tasks)) × (length (now works) ≡ length (now tasks)) ⌝ }
+    ensures { λ r. ⌜ ((js : List Job) → map (λ j. j .task) js ≡ now (tasks .entry) → map (λ j. j .release) js ≡ now (releases .entry) → map (λ j. j .work) js ≡ now (works .entry) → r ≡ legalArrival (tasksOf table) js) ⌝ }
+{
+    let mut i = 0;
+    while i < tasks.len() {
+        if !legal_job(table, tasks, releases, works, i) {
+            return false;
+        }
+        i += 1;
+    }
+    true
+}
+
+// Whether each job is released before the trace ends.
+fn released_before(releases: &[u32], end: usize) -> bool
+    ensures { λ r. ⌜ r ≡ releasedBefore end (now (releases .entry)) ⌝ }
+{
+    let mut i = 0;
+    while i < releases.len() {
+        if end <= releases[i] as usize {
+            return false;
+        }
+        i += 1;
+    }
+    true
+}
+
+// Whether the job lists keep the rules of the run, on a trace that ends at that instant.
+pub fn check_jobs(table: Table, tasks: &[u32], releases: &[u32], works: &[u32], end: usize) -> bool
+    requires { ⌜ table .count ≤ most-tasks ⌝ }
+    ensures { λ r. ⌜ r ≡ validJobs (tasksOf table) (now (tasks .entry)) (now (releases .entry)) (now (works .entry)) end ⌝ }
+{
+    if releases.len() != tasks.len() {
+        return false;
+    }
+    if works.len() != tasks.len() {
+        return false;
+    }
+    if MOST < tasks.len() {
+        return false;
+    }
+    if !released_before(releases, end) {
+        return false;
+    }
+    legal_jobs(table, tasks, releases, works)
+}

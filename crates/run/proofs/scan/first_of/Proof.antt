@@ -1,6 +1,6 @@
 use borrow.Author.Needs.{needs}
 use Rattle.run.specs.Scan.{takesOver}
-use Rattle.run.proofs.Checks.{checks}
+use Rattle.budget.proofs.Tests.{tests}
 use Rattle.run.proofs.scan.first_of.Statement.{statement}
 use Rattle.run.proofs.scan.first_of.Tie as tie
 use Rattle.run.proofs.scan.first_of.Reads as reads
@@ -14,7 +14,7 @@ shared-slice-read-if1 c = search needs
 
 returns : tie.Need-returns
 unfolding takesOver
-returns c = search checks
+returns c = search tests
 
 mul-if2 : tie.Need-mul-if2
 mul-if2 c = search needs
@@ -24,11 +24,11 @@ shared-slice-read-if2 c = search needs
 
 returns-2 : tie.Need-returns-2
 unfolding takesOver
-returns-2 c = search checks
+returns-2 c = search tests
 
 returns-3 : tie.Need-returns-3
 unfolding takesOver
-returns-3 c = search checks
+returns-3 c = search tests
 
 mul-if4 : tie.Need-mul-if4
 mul-if4 c = search needs
@@ -44,7 +44,7 @@ shared-slice-read-if4-2 c = search needs
 
 returns-4 : tie.Need-returns-4
 unfolding takesOver
-returns-4 c = search checks
+returns-4 c = search tests
 
 mul-if5 : tie.Need-mul-if5
 mul-if5 c = search needs
@@ -60,7 +60,7 @@ shared-slice-read-if5-2 c = search needs
 
 returns-5 : tie.Need-returns-5
 unfolding takesOver
-returns-5 c = search checks
+returns-5 c = search tests
 
 mul-if6 : tie.Need-mul-if6
 mul-if6 c = search needs
@@ -76,11 +76,11 @@ shared-slice-read-if6-2 c = search needs
 
 returns-6 : tie.Need-returns-6
 unfolding takesOver
-returns-6 c = search checks
+returns-6 c = search tests
 
 returns-7 : tie.Need-returns-7
 unfolding takesOver
-returns-7 c = search checks
+returns-7 c = search tests
 
 pub first-of-spec : {M : Type 1} → statement M
 first-of-spec =

@@ -1,20 +1,20 @@
-use Rattle.run.proofs.Checks.{checks}
+use Rattle.budget.proofs.Tests.{tests}
 use Rattle.run.proofs.scan.lower_late.Statement.{statement}
 use Rattle.run.proofs.scan.lower_late.Tie as tie
 use Rattle.run.proofs.scan.lower_late.Reads as reads
 use Rattle.run.proofs.scan.lower_late.Lts as lts
 
 returns : tie.Need-returns
-returns c = search checks
+returns c = search tests
 
 returns-2 : tie.Need-returns-2
-returns-2 c = search checks
+returns-2 c = search tests
 
 returns-3 : tie.Need-returns-3
-returns-3 c = search checks
+returns-3 c = search tests
 
 returns-4 : tie.Need-returns-4
-returns-4 c = search checks
+returns-4 c = search tests
 
 pub lower-late-spec : {M : Type 1} → statement M
 lower-late-spec = tie.close (tie.spec returns returns-2 returns-3 returns-4)

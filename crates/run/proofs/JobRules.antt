@@ -1,0 +1,102 @@
+-- The rules of the run for a list of jobs, at one place after the other: what holds from place k on is what holds at k and from k + 1 on.
+use Prim.Native.Nat.{ℕ, suc, _+_, _≤_, _<_}
+use native.Mathlib.Nat.{suc-inj}
+use native.Mathlib.Numerals.{add-one}
+use native.Mathlib.Omega.{arith}
+use mathlib.Core.Path.{_≡_, refl, sym, ap, ap₂, _∙_}
+use mathlib.Core.Bool.{Bool, true, false, _&&_, _||_}
+use mathlib.Core.List.{List, [], _∷_, map}
+use lib.ListN.{length, getD, drop, drop-of-length-le}
+use lib.Dec.{leb, ltb, eqb}
+use lib.Seq.{getD-take}
+use borrow.Author.Tests.{ltb-true}
+use Rattle.budget.specs.declared.task.Task.{Task}
+use Rattle.budget.specs.declared.task.Table.{Table}
+use Rattle.budget.specs.Task.{T, C, noTask, tasksOf}
+use Rattle.budget.proofs.Places.{places}
+use Rattle.run.specs.Job.{Job, taskOf, inOrder, apart, validJob, beforeAll, legalArrival}
+use Rattle.run.specs.Run.{noJob}
+use Rattle.run.specs.Scan.{follows}
+use Rattle.run.specs.Walk.{jobsOf, releasedBefore}
+use Rattle.run.proofs.Scans.{column, cut}
+
+pub released-from : (end : ℕ) (rs : List ℕ) (k : ℕ) → k < length rs
+    → releasedBefore end (drop k rs) ≡ (ltb (getD rs k 0) end && releasedBefore end (drop (k + 1) rs))
+unfolding releasedBefore
+released-from end rs k h = ap (releasedBefore end) (cut rs k (k + 1) 0 (sym (add-one k)) h)
+
+pub released-end : (end : ℕ) (rs : List ℕ) (k : ℕ) → length rs ≤ k → releasedBefore end (drop k rs) ≡ true
+unfolding releasedBefore
+released-end end rs k h = ap (releasedBefore end) (drop-of-length-le rs h)
+
+and-assoc : (a b c : Bool) → (a && (b && c)) ≡ ((a && b) && c)
+and-assoc true b c = refl
+and-assoc false b c = refl
+
+module _ (ks : List Task) (js : List Job) where
+  pub before-from : (ts rs : List ℕ) → map (λ j. j .task) js ≡ ts → map (λ j. j .release) js ≡ rs
+      → (i k : ℕ) → i < length js → k < length js
+      → beforeAll ks (getD js i noJob) (drop k js)
+      ≡ (follows (T (taskOf ks (getD js i noJob))) (getD ts i 0) (getD rs i 0) (getD ts k 0) (getD rs k 0) && beforeAll ks (getD js i noJob) (drop (k + 1) js))
+  unfolding beforeAll inOrder apart follows
+  before-from ts rs tasks releases i k hi hk =
+      ap (beforeAll ks (getD js i noJob)) (cut js k (k + 1) noJob (sym (add-one k)) hk)
+      ∙ rw (column (λ j. j .task) js ts tasks i hi, column (λ j. j .release) js rs releases i hi, column (λ j. j .task) js ts tasks k hk, column (λ j. j .release) js rs releases k hk)
+
+  pub before-end : (a : Job) (k : ℕ) → length js ≤ k → beforeAll ks a (drop k js) ≡ true
+  unfolding beforeAll
+  before-end a k h = ap (beforeAll ks a) (drop-of-length-le js h)
+
+  pub legal-from : (k : ℕ) → k < length js
+      → legalArrival ks (drop k js)
+      ≡ ((validJob ks (getD js k noJob) && beforeAll ks (getD js k noJob) (drop (suc k) js)) && legalArrival ks (drop (k + 1) js))
+  unfolding legalArrival
+  legal-from k h = rw (add-one k) (ap (legalArrival ks) (cut js k (suc k) noJob refl h) ∙ and-assoc (validJob ks (getD js k noJob)) _ _)
+
+  pub legal-end : (k : ℕ) → length js ≤ k → legalArrival ks (drop k js) ≡ true
+  unfolding legalArrival
+  legal-end k h = ap (legalArrival ks) (drop-of-length-le js h)
+
+-- a job's own rules, by its numbers and the table
+pub tasks-length : (table : Table) → table .count ≤ length (table .tasks) → length (tasksOf table) ≡ table .count
+unfolding tasksOf
+tasks-length table fits = places (table .count) (table .tasks) fits
+
+and-same : (a b b′ : Bool) → (a ≡ true → b ≡ b′) → (a && b) ≡ (a && b′)
+and-same true b b′ h = h refl
+and-same false b b′ h = refl
+
+module _ (table : Table) (fits : table .count ≤ length (table .tasks)) (js : List Job) (ts ws : List ℕ) (tasks : map (λ j. j .task) js ≡ ts)
+    (works : map (λ j. j .work) js ≡ ws) (i : ℕ) (h : i < length js) where
+  pub task-at : getD ts i 0 < table .count → taskOf (tasksOf table) (getD js i noJob) ≡ getD (table .tasks) (getD ts i 0) noTask
+  unfolding taskOf tasksOf
+  task-at there = rw (column (λ j. j .task) js ts tasks i h, getD-take (table .count) (table .tasks) (getD ts i 0) noTask there)
+
+  pub valid-at : validJob (tasksOf table) (getD js i noJob)
+      ≡ (ltb (getD ts i 0) (table .count) && (leb 1 (getD ws i 0) && leb (getD ws i 0) (C (getD (table .tasks) (getD ts i 0) noTask))))
+  unfolding validJob
+  valid-at =
+      rw (column (λ j. j .task) js ts tasks i h, column (λ j. j .work) js ws works i h, tasks-length table fits)
+      (and-same (ltb (getD ts i 0) (table .count)) _ _
+      (λ there. ap (λ (k : Task). leb 1 (getD ws i 0) && leb (getD ws i 0) (C k)) (task-at (ltb-true _ _ there))))
+
+-- job lists of one length are the columns of their jobs
+pub record Lists (ts rs ws : List ℕ) : Type 0 where
+  pub tasks : map (λ j. j .task) (jobsOf ts rs ws) ≡ ts
+  pub releases : map (λ j. j .release) (jobsOf ts rs ws) ≡ rs
+  pub works : map (λ j. j .work) (jobsOf ts rs ws) ≡ ws
+
+pub lists : (ts rs ws : List ℕ) → length rs ≡ length ts → length ws ≡ length ts → Lists ts rs ws
+unfolding jobsOf
+lists [] [] [] e f = record { tasks = refl; releases = refl; works = refl }
+lists [] [] (w ∷ ws) e f = absurd (omega (arith, f))
+lists [] (r ∷ rs) ws e f = absurd (omega (arith, e))
+lists (t ∷ ts) [] ws e f = absurd (omega (arith, e))
+lists (t ∷ ts) (r ∷ rs) [] e f = absurd (omega (arith, f))
+lists (t ∷ ts) (r ∷ rs) (w ∷ ws) e f =
+    let l = lists ts rs ws (suc-inj e) (suc-inj f) in
+    record {
+      tasks = ap (λ (xs : List ℕ). t ∷ xs) (l .tasks);
+      releases = ap (λ (xs : List ℕ). r ∷ xs) (l .releases);
+      works = ap (λ (xs : List ℕ). w ∷ xs) (l .works);
+    }

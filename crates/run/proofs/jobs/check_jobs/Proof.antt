@@ -1,0 +1,57 @@
+use denote.Ref.{now}
+use borrow.Author.Tests.{eq-eqb, le-leb, not-true, not-false}
+use Rattle.run.proofs.JobRules.{lists}
+use Rattle.budget.proofs.Tests.{tests}
+use Rattle.run.specs.Walk.{validJobs}
+use borrow.Author.Needs.{needs}
+use Rattle.run.proofs.jobs.check_jobs.Statement.{statement}
+use Rattle.run.proofs.jobs.check_jobs.Tie as tie
+use Rattle.run.proofs.jobs.check_jobs.Reads as reads
+use Rattle.run.proofs.jobs.check_jobs.Lts as lts
+use Rattle.run.proofs.jobs.legal_jobs.Reads as legal-jobs-reads
+use Rattle.run.proofs.jobs.released_before.Reads as released-before-reads
+
+returns : tie.Need-returns
+unfolding validJobs
+returns c = search tests
+
+returns-2 : tie.Need-returns-2
+unfolding validJobs
+returns-2 c = search tests
+
+returns-3 : tie.Need-returns-3
+unfolding validJobs
+returns-3 c = search tests
+
+released-before-requires : tie.Need-released-before-requires
+released-before-requires c κs = search needs
+
+returns-4 : tie.Need-returns-4
+unfolding validJobs
+returns-4 c =
+    let e = c .before .before in
+    rw (eq-eqb _ _ (e .before .before .if1 .left), eq-eqb _ _ (e .before .if2 .left), le-leb _ _ (e .if3 .left), ← (c .before .released-before .ensures), not-true (c .before .released-before .result) (c .if4 .taken))
+
+legal-jobs-requires : tie.Need-legal-jobs-requires
+legal-jobs-requires c κs = search needs
+
+returns-5 : tie.Need-returns-5
+unfolding validJobs
+returns-5 c =
+    let e = c .before .before .before in
+    let a = e .before .before .before .before .before .before .args in
+    let l = lists (now (a .tasks)) (now (a .releases)) (now (a .works)) (e .before .before .if1 .left) (e .before .if2 .left) in
+    rw (eq-eqb _ _ (e .before .before .if1 .left), eq-eqb _ _ (e .before .if2 .left), le-leb _ _ (e .if3 .left), ← (c .before .before .released-before .ensures), not-false (c .before .before .released-before .result) (c .before .if4 .left))
+    (c .legal-jobs .ensures _ (l .tasks) (l .releases) (l .works))
+
+pub check-jobs-spec : {M : Type 1} → statement M
+check-jobs-spec =
+    tie.close
+    (tie.spec
+    returns
+    returns-2
+    returns-3
+    released-before-requires
+    returns-4
+    legal-jobs-requires
+    returns-5)

@@ -1,0 +1,78 @@
+use Prim.Native.Nat.{ℕ, _+_, _-_, _≤_}
+use mathlib.Core.List.{List, map}
+use mathlib.Core.Path.{_≡_, refl, sym, _∙_}
+use lib.ListN.{length, drop}
+use denote.Ref.{now}
+use borrow.Author.Needs.{needs}
+use borrow.Author.Tests.{not-true, not-false}
+use native.Mathlib.Omega.{arith}
+use Rattle.budget.specs.Task.{tasksOf}
+use Rattle.run.specs.Job.{Job, legalArrival}
+use Rattle.run.proofs.JobRules.{legal-from, legal-end}
+use Rattle.run.proofs.Scans.{column-length}
+use Rattle.run.proofs.jobs.legal_jobs.Statement.{statement}
+use Rattle.run.proofs.jobs.legal_jobs.Tie as tie
+use Rattle.run.proofs.jobs.legal_jobs.Reads as reads
+use Rattle.run.proofs.jobs.legal_jobs.Lts as lts
+use Rattle.run.proofs.jobs.legal_job.Reads as legal-job-reads
+
+abbrev Inv-loop : tie.InvT-loop
+Inv-loop table tasks releases works i₀ i = (i ≤ length tasks)
+    × ((js : List Job) → map (λ j. j .task) js ≡ tasks → map (λ j. j .release) js ≡ releases → map (λ j. j .work) js ≡ works
+    → legalArrival (tasksOf table) js ≡ legalArrival (tasksOf table) (drop i js))
+
+abbrev μ-loop : tie.MeasureT-loop
+μ-loop table tasks releases works i₀ i = length tasks - i
+
+loop-holds : tie.Need-loop-holds Inv-loop μ-loop
+loop-holds c = (search needs, (λ js tasks releases works. refl))
+
+legal-job-requires : tie.Need-legal-job-requires Inv-loop μ-loop
+legal-job-requires c κs = search needs
+
+returns : tie.Need-returns Inv-loop μ-loop
+returns c =
+    let h = c .before .before .before in
+    let a = h .before .before .before .before .args in
+    λ js tasks releases works.
+    sym
+    (h .loop .inv .1 js tasks releases works
+    ∙ legal-from (tasksOf (a .table)) js (h .loop .i) (omega (arith, column-length _ js _ tasks))
+    ∙ rw (← (c .before .legal-job .ensures js tasks releases works), not-true (c .before .legal-job .result) (c .if1 .taken)))
+
+add-i : tie.Need-add-i Inv-loop μ-loop
+add-i c = search needs
+
+loop-less : tie.Need-loop-less Inv-loop μ-loop
+loop-less c = search needs
+
+loop-again : tie.Need-loop-again Inv-loop μ-loop
+loop-again c =
+    let h = c .before .before .before in
+    let a = h .before .before .before .before .args in (
+      search needs,
+      (λ js tasks releases works.
+          h .loop .inv .1 js tasks releases works
+          ∙ legal-from (tasksOf (a .table)) js (h .loop .i) (omega (arith, column-length _ js _ tasks))
+          ∙ rw (← (c .before .legal-job .ensures js tasks releases works), not-false (c .before .legal-job .result) (c .if1 .left))),
+    )
+
+returns-2 : tie.Need-returns-2 Inv-loop μ-loop
+returns-2 c =
+    let a = c .before .before .before .before .before .args in
+    λ js tasks releases works.
+    sym (c .before .loop .inv .1 js tasks releases works ∙ legal-end (tasksOf (a .table)) js (c .before .loop .i) (omega (arith, column-length _ js _ tasks)))
+
+pub legal-jobs-spec : {M : Type 1} → statement M
+legal-jobs-spec =
+    tie.close
+    (tie.spec
+    Inv-loop
+    μ-loop
+    loop-holds
+    legal-job-requires
+    returns
+    add-i
+    loop-less
+    loop-again
+    returns-2)

@@ -1,0 +1,72 @@
+use Prim.Native.Nat.{_-_, _≤_}
+use mathlib.Core.Path.{_≡_, refl, sym, _∙_}
+use lib.ListN.{length, drop}
+use denote.Ref.{now}
+use borrow.Author.Needs.{needs}
+use borrow.Author.Tests.{lt-ltb, le-ltb}
+use native.Mathlib.Omega.{arith}
+use Rattle.run.specs.Walk.{releasedBefore}
+use Rattle.run.proofs.JobRules.{released-from, released-end}
+use Rattle.run.proofs.jobs.released_before.Statement.{statement}
+use Rattle.run.proofs.jobs.released_before.Tie as tie
+use Rattle.run.proofs.jobs.released_before.Reads as reads
+use Rattle.run.proofs.jobs.released_before.Lts as lts
+
+abbrev Inv-loop : tie.InvT-loop
+Inv-loop releases end i₀ i = (i ≤ length releases) × (releasedBefore end releases ≡ releasedBefore end (drop i releases))
+
+abbrev μ-loop : tie.MeasureT-loop
+μ-loop releases end i₀ i = length releases - i
+
+loop-holds : tie.Need-loop-holds Inv-loop μ-loop
+loop-holds c = (search needs, refl)
+
+mul-if1 : tie.Need-mul-if1 Inv-loop μ-loop
+mul-if1 c = search needs
+
+shared-slice-read-if1 : tie.Need-shared-slice-read-if1 Inv-loop μ-loop
+shared-slice-read-if1 c = search needs
+
+cast-if1 : tie.Need-cast-if1 Inv-loop μ-loop
+cast-if1 c = omega (arith, c .shared-slice-known .given (c .before .before .loop .i))
+
+returns : tie.Need-returns Inv-loop μ-loop
+returns c =
+    let h = c .before .before .before in
+    let a = h .before .args in
+    rw (h .loop .inv .1, released-from (a .end) (now (a .releases)) (h .loop .i) (c .before .before .loop-test .taken), le-ltb _ _ (c .if1 .taken))
+
+add-i : tie.Need-add-i Inv-loop μ-loop
+add-i c = search needs
+
+loop-less : tie.Need-loop-less Inv-loop μ-loop
+loop-less c = search needs
+
+loop-again : tie.Need-loop-again Inv-loop μ-loop
+loop-again c =
+    let h = c .before .before .before in
+    let a = h .before .args in (
+      search needs,
+      h .loop .inv .1 ∙ released-from (a .end) (now (a .releases)) (h .loop .i) (c .before .before .loop-test .taken) ∙ rw (lt-ltb _ _ (c .if1 .left)),
+    )
+
+returns-2 : tie.Need-returns-2 Inv-loop μ-loop
+returns-2 c =
+    let a = c .before .before .args in
+    sym (c .before .loop .inv .1 ∙ released-end (a .end) (now (a .releases)) (c .before .loop .i) (c .loop-test .left))
+
+pub released-before-spec : {M : Type 1} → statement M
+released-before-spec =
+    tie.close
+    (tie.spec
+    Inv-loop
+    μ-loop
+    loop-holds
+    mul-if1
+    shared-slice-read-if1
+    cast-if1
+    returns
+    add-i
+    loop-less
+    loop-again
+    returns-2)
