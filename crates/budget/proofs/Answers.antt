@@ -7,10 +7,14 @@ use lib.Dec.{leb, eqb}
 use borrow.Author.Tests.{le-leb, lt-leb, ne-eqb}
 use Rattle.budget.specs.declared.interface.Interface.{Interface}
 use Rattle.budget.specs.declared.quantity.Amount.{Amount}
+use Rattle.budget.specs.declared.task.Table.{Table}
+use Rattle.budget.specs.Demand.{demand, demandRefusal, demandAnswer}
 use Rattle.budget.specs.Interface.{interfaceRefusal, validInterface}
-use Rattle.budget.specs.Limits.{limit}
+use Rattle.budget.specs.Limits.{limit, most-tasks}
 use Rattle.budget.specs.Refusal as refusal
 use Rattle.budget.specs.Supply.{supply, supplyRefusal, supplyAnswer}
+use Rattle.budget.specs.Task.{tasksOf, validTasks}
+use Rattle.budget.proofs.Ranges.{table-range-in}
 
 -- a range test that is not refused was passed
 pub passed : (b : Bool) → cond b refusal.none refusal.range ≡ refusal.none → b ≡ true
@@ -41,3 +45,8 @@ answer-given t v h = simp (le-leb t limit h)
 pub supply-given : (i : Interface) (t : ℕ) → validInterface i ≡ true → t ≤ limit → supplyAnswer i t ≡ record { refusal = refusal.none; units = record { 0 = supply i t } }
 unfolding supplyAnswer supplyRefusal interfaceRefusal
 supply-given i t e h = rw e (answer-given t (supply i t) h)
+
+-- and so is the demand
+pub demand-given : (table : Table) (t : ℕ) → table .count ≤ most-tasks → validTasks (tasksOf table) ≡ true → t ≤ limit → demandAnswer table t ≡ record { refusal = refusal.none; units = record { 0 = demand (tasksOf table) t } }
+unfolding demandAnswer demandRefusal
+demand-given table t h e l = rw (table-range-in table h e) (answer-given t (demand (tasksOf table) t) l)

@@ -8,3 +8,4 @@ pub mod CommonPeriodLaws
 pub mod Places
 pub mod Within
 pub mod Ranges
+pub mod DueBound

@@ -6,11 +6,12 @@ use native.Mathlib.Omega.{arith}
 use lib.Dec.{leb, ltb}
 use borrow.Author.Tests.{ltb-false, le-ltb, leb-true, le-leb}
 use Rattle.budget.specs.declared.component.Component.{Component}
+use Rattle.budget.specs.declared.task.Table.{Table}
 use Rattle.budget.specs.Component.{interfaceOf, validComponent, rangeRefusal, componentRefusal, commonPeriodOf}
 use Rattle.budget.specs.Interface.{validInterface}
 use Rattle.budget.specs.Limits.{limit, most-tasks}
 use Rattle.budget.specs.Refusal as refusal
-use Rattle.budget.specs.Task.{tasksOf, validTasks}
+use Rattle.budget.specs.Task.{tableRefusal, tasksOf, validTasks}
 use Rattle.budget.proofs.Valid.{both}
 
 -- every number of the component is in its range
@@ -41,6 +42,17 @@ all-passed true valid short e = absurd (omega (arith, e))
 all-passed false true true e = (refl, refl)
 all-passed false true false e = absurd (omega (arith, e))
 all-passed false false short e = absurd (omega (arith, e))
+
+-- a table is not refused exactly where its count and its tasks are in range
+pub table-in-range : (t : Table) → tableRefusal t ≡ refusal.none → (t .count ≤ most-tasks) × (validTasks (tasksOf t) ≡ true)
+unfolding tableRefusal
+table-in-range t e =
+    let p = ranges-passed (ltb most-tasks (t .count)) (validTasks (tasksOf t)) e in
+    (ltb-false _ _ (p .0), p .1)
+
+pub table-range-in : (t : Table) → t .count ≤ most-tasks → validTasks (tasksOf t) ≡ true → tableRefusal t ≡ refusal.none
+unfolding tableRefusal
+table-range-in t h e = rw (le-ltb _ _ h, e)
 
 -- the ranges are not refused exactly where they hold
 pub in-range : (k : Component) → rangeRefusal k ≡ refusal.none → InRange k
