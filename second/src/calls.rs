@@ -1,0 +1,276 @@
+//! The calls of docs/CALLS.md and their answers, one line each.
+
+use crate::judge::{self, Verdict};
+use crate::numbers::{add_task, common_divisor, remove_task, Capacity, Component, Interface, Refusal, Table, Task, TASKS};
+use crate::run::{self, Jobs};
+use crate::{demand, sheet, supply, trace};
+
+/// What a byte of a lent buffer holds before the call.
+pub const BUFFER_BYTE: u8 = 0xa5;
+/// What a number of the work-left buffer holds before the call.
+pub const LEFT_NUMBER: u32 = 77;
+/// The largest buffer that a call lends.
+pub const BUFFER: u64 = 4_096;
+
+/// The words of a line, taken one by one.
+struct Words<'a> {
+    rest: std::str::Split<'a, char>,
+}
+
+type Parsed<T> = Result<T, String>;
+
+impl<'a> Words<'a> {
+    fn word(&mut self) -> Parsed<&'a str> {
+        self.rest.next().ok_or_else(|| "the line ends too early".to_string())
+    }
+
+    fn number(&mut self, limit: u64) -> Parsed<u64> {
+        let word = self.word()?;
+        match word.parse::<u64>() {
+            Ok(value) if value <= limit => Ok(value),
+            _ => Err(format!("`{word}` is not a number up to {limit}")),
+        }
+    }
+
+    /// A time or an amount of units.
+    fn long(&mut self) -> Parsed<u32> {
+        Ok(self.number(u32::MAX as u64)? as u32)
+    }
+
+    /// A place, a length or a count.
+    fn place(&mut self) -> Parsed<u64> {
+        self.number(u64::MAX)
+    }
+
+    fn task(&mut self) -> Parsed<Task> {
+        Ok(Task::new(self.long()?, self.long()?, self.long()?))
+    }
+
+    fn table(&mut self) -> Parsed<Table> {
+        let count = self.place()?;
+        let given = count.min(TASKS);
+        let tasks = (0..given).map(|_| self.task()).collect::<Parsed<Vec<Task>>>()?;
+        Ok(Table { count, tasks })
+    }
+
+    fn interface(&mut self) -> Parsed<Interface> {
+        Ok(Interface::new(self.long()?, self.long()?, self.long()?))
+    }
+
+    fn component(&mut self) -> Parsed<Component> {
+        let number = self.number(u16::MAX as u64)? as u16;
+        let capacity = match self.word()? {
+            "stated" => Capacity::Stated(self.long()?),
+            "asked" => Capacity::Asked,
+            other => return Err(format!("`{other}` is neither `stated` nor `asked`")),
+        };
+        Ok(Component { number, period: self.long()?, capacity, deadline: self.long()?, table: self.table()? })
+    }
+
+    fn list(&mut self) -> Parsed<Vec<u32>> {
+        let count = self.number(2_048)?;
+        (0..count).map(|_| self.long()).collect()
+    }
+
+    fn row(&mut self) -> Parsed<Vec<u8>> {
+        let word = self.word()?;
+        if word == "-" {
+            return Ok(vec![]);
+        }
+        let pairs = word.as_bytes().chunks(2).map(|pair| match pair {
+            [high, low] => Some(nibble(*high)? << 4 | nibble(*low)?),
+            _ => None,
+        });
+        pairs.collect::<Option<Vec<u8>>>().ok_or_else(|| "a row of bytes is not pairs of hex digits".to_string())
+    }
+
+    fn buffer(&mut self) -> Parsed<Vec<u8>> {
+        Ok(vec![BUFFER_BYTE; self.number(BUFFER)? as usize])
+    }
+}
+
+fn nibble(digit: u8) -> Option<u8> {
+    match digit {
+        b'0'..=b'9' => Some(digit - b'0'),
+        b'a'..=b'f' => Some(digit - b'a' + 10),
+        _ => None,
+    }
+}
+
+pub fn row_text(row: &[u8]) -> String {
+    if row.is_empty() {
+        return "-".to_string();
+    }
+    row.iter().map(|byte| format!("{byte:02x}")).collect()
+}
+
+pub fn table_text(table: &Table) -> String {
+    let tasks: String = table.tasks.iter().map(|task| format!(" {} {} {}", task.period, task.work, task.deadline)).collect();
+    format!("{}{tasks}", table.count)
+}
+
+pub fn component_text(component: &Component) -> String {
+    let capacity = match component.capacity {
+        Capacity::Stated(units) => format!("stated {units}"),
+        Capacity::Asked => "asked".to_string(),
+    };
+    format!("{} {capacity} {} {} {}", component.number, component.period, component.deadline, table_text(&component.table))
+}
+
+/// `ok` or the refusal, and then the values, which a refused answer has too.
+fn answered<T>(answer: Result<T, Refusal>, refused: T, values: impl Fn(T) -> String) -> String {
+    match answer {
+        Ok(value) => format!("ok {}", values(value)),
+        Err(refusal) => format!("refused {refusal} {}", values(refused)),
+    }
+}
+
+fn checked(answer: Result<(), Refusal>) -> String {
+    answer.map_or_else(|refusal| format!("refused {refusal}"), |()| "ok".to_string())
+}
+
+fn edited(answer: Result<Component, Refusal>) -> String {
+    answered(answer, Component::refused(), |component| format!("{} zero", component_text(&component)))
+}
+
+fn verdict_text((verdict, capacity): (Verdict, u32)) -> String {
+    match verdict {
+        Verdict::Accepted => format!("accepted {capacity}"),
+        Verdict::Short(instant) => format!("short {instant} {capacity}"),
+        Verdict::None => format!("none {capacity}"),
+    }
+}
+
+fn margin_text(margin: judge::Margin) -> String {
+    margin.map_or("none".to_string(), |(least, instant)| format!("{least} {instant}"))
+}
+
+fn walk(words: &mut Words) -> Parsed<String> {
+    let table = words.table()?;
+    let jobs = Jobs { tasks: words.list()?, releases: words.list()?, works: words.list()? };
+    let row = words.row()?;
+    let length = words.number(2_048)?;
+    let untouched = run::Walked { miss: None, served: 0, idle: 0, left: vec![LEFT_NUMBER; length as usize] };
+    Ok(answered(run::answer(&table, &jobs, &row, length), untouched, |walked| {
+        let miss = walked.miss.map_or("none".to_string(), |(instant, task)| format!("miss {instant} {task}"));
+        let left: String = walked.left.iter().map(|work| format!(" {work}")).collect();
+        format!("{miss} {} {} {}{left}", walked.served, walked.idle, walked.left.len())
+    }))
+}
+
+/// `ok` or the refusal with its place.
+fn faulted<T>(answer: Result<T, sheet::Fault>, refused: T, values: impl Fn(T) -> String) -> String {
+    match answer {
+        Ok(value) => format!("ok {}", values(value)),
+        Err((refusal, place)) => format!("refused {refusal} {place} {}", values(refused)),
+    }
+}
+
+fn written(answer: Result<u64, Refusal>, buffer: &[u8]) -> String {
+    answered(answer, 0, |place| format!("{place} {}", row_text(buffer)))
+}
+
+/// The answer to one call.
+pub fn answer(line: &str) -> Parsed<String> {
+    let mut words = Words { rest: line.split(' ') };
+    let w = &mut words;
+    let text = match w.word()? {
+        "check_task" => checked(w.task()?.check()),
+        "check_table" => checked(w.table()?.check()),
+        "check_interface" => checked(w.interface()?.check()),
+        "check_component" => checked(w.component()?.check()),
+        "dedicated" => "ok 1 1 1".to_string(),
+        "common_divisor" => format!("ok {}", common_divisor(w.long()? as u64, w.long()? as u64)),
+        "common_period" => answered(w.component()?.common_period(), 0, |length| length.to_string()),
+        "demand" => answered(demand::answer(&w.table()?, w.long()? as u64), 0, |units| units.to_string()),
+        "supply" => answered(supply::answer(&w.interface()?, w.long()? as u64), 0, |units| units.to_string()),
+        "add_task" => edited(add_task(&w.component()?, w.task()?)),
+        "remove_task" => edited(remove_task(&w.component()?, w.place()?)),
+        "legal" => answered(trace::answer(&w.interface()?, w.long()? as u64, &w.row()?), false, |yes| if yes { "yes" } else { "no" }.to_string()),
+        "walk" => walk(w)?,
+        "verdict" => answered(judge::verdict(&w.component()?), (Verdict::None, 0), verdict_text),
+        "margin" => answered(judge::margin(&w.component()?), None, margin_text),
+        "capacity" => answered(judge::capacity(&w.component()?), None, |units| units.map_or("none".to_string(), |units| units.to_string())),
+        "sheet" => faulted(sheet::read(&w.row()?).map(|all| all.len()), 0, |count| count.to_string()),
+        "part" => {
+            let row = w.row()?;
+            let part = sheet::at_place(&row, w.place()?).map(|read| row[read.start..read.end].to_vec());
+            faulted(part, vec![], |bytes| row_text(&bytes))
+        }
+        "read" => {
+            let read = sheet::at_place(&w.row()?, w.place()?).map(|read| read.component);
+            faulted(read, Component::refused(), |component| format!("{} zero", component_text(&component)))
+        }
+        "write" => {
+            let (component, mut buffer) = (w.component()?, w.buffer()?);
+            let place = sheet::write_component(&component, &mut buffer, w.place()?);
+            written(place, &buffer)
+        }
+        "write_end" => {
+            let (count, mut buffer) = (w.number(u16::MAX as u64)?, w.buffer()?);
+            let place = sheet::write_end(count, &mut buffer, w.place()?);
+            written(place, &buffer)
+        }
+        "host" => {
+            let (row, place, mut buffer) = (w.row()?, w.place()?, w.buffer()?);
+            let refusal = sheet::host_call(&row, place, &mut buffer, w.place()?);
+            format!("{refusal} {}", row_text(&buffer))
+        }
+        other => return Err(format!("`{other}` is no call")),
+    };
+    match words.rest.next() {
+        Some(_) => Err("the line goes on after the call".to_string()),
+        None => Ok(text),
+    }
+}
+
+#[cfg(test)]
+mod tests {
+    use super::answer;
+
+    fn holds(call: &str, expected: &str) {
+        assert_eq!(answer(call).as_deref(), Ok(expected), "{call}");
+    }
+
+    #[test]
+    fn one_call_of_each_kind() {
+        holds("check_task 8 2 7", "ok");
+        holds("check_task 8 2 9", "refused 9");
+        holds("check_table 0", "ok");
+        holds("check_interface 6 2 4", "ok");
+        holds("check_component 1 asked 6 4 1 8 2 7", "ok");
+        holds("dedicated", "ok 1 1 1");
+        holds("common_divisor 12 18", "ok 6");
+        holds("common_period 1 stated 1 1 1 2 4 2 4 7 3 7", "ok 28");
+        holds("common_period 1 asked 3 3 1 1048576 1 1", "refused 10 0");
+        holds("demand 2 4 2 4 7 3 7 14", "ok 12");
+        holds("supply 6 2 4 8", "ok 2");
+        holds("supply 6 2 4 1048577", "refused 9 0");
+        holds("add_task 7 asked 6 4 0 8 2 7", "ok 7 asked 6 4 1 8 2 7 zero");
+        holds("remove_task 7 stated 2 6 4 1 8 2 7 0", "ok 7 stated 2 6 4 0 zero");
+        holds("remove_task 7 stated 2 6 4 1 8 2 7 1", "refused 15 0 stated 1 1 1 0 zero");
+        holds("legal 6 2 4 2 0000000000000101", "ok yes");
+        holds("legal 6 2 4 6 -", "refused 9 no");
+        holds("walk 1 8 2 7 1 0 1 0 1 2 0000000000000101 1", "ok miss 7 0 1 0 1 1");
+        holds("walk 1 8 2 7 1 0 1 0 1 2 0000000000000101 2", "refused 11 none 0 0 2 77 77");
+        holds("verdict 1 stated 2 6 4 1 8 2 7", "ok short 7 2");
+        holds("verdict 1 asked 6 4 1 8 2 7", "ok accepted 3");
+        holds("margin 1 asked 6 4 1 8 2 7", "ok 1 7");
+        holds("capacity 1 asked 6 4 1 4 2 2", "ok none");
+        holds("sheet -", "refused 1 0 0");
+        holds("sheet 060003000000", "ok 0");
+        holds("part 060003000000 0", "refused 15 0 -");
+        holds("read 060003000000 0", "refused 15 0 0 stated 1 1 1 0 zero");
+        holds("write_end 256 8 1", "ok 7 a5060003000001a5");
+        holds("write_end 257 8 9", "refused 9 0 a5a5a5a5a5a5a5a5");
+        holds("host 060003000000 0 2 0", "15 a5a5");
+    }
+
+    #[test]
+    fn what_is_no_call_is_named() {
+        assert!(answer("supply 6 2 4").is_err());
+        assert!(answer("supply 6 2 4 8 9").is_err());
+        assert!(answer("legal 6 2 4 0 0").is_err());
+        assert!(answer("suply 6 2 4 8").is_err());
+    }
+}

@@ -1,0 +1,558 @@
+//! Calls made by chance: in range and out of range, legal and damaged, small and at the ends of each range.
+
+use crate::calls::{component_text, row_text, table_text};
+use crate::chance::Chance;
+use crate::numbers::{Capacity, Component, Interface, Table, Task, LIMIT};
+use crate::{sheet, trace};
+
+/// The kinds of call.
+pub const KINDS: [&str; 21] = [
+    "check_task",
+    "check_table",
+    "check_interface",
+    "check_component",
+    "common_divisor",
+    "common_period",
+    "demand",
+    "supply",
+    "add_task",
+    "remove_task",
+    "legal",
+    "walk",
+    "verdict",
+    "margin",
+    "capacity",
+    "sheet",
+    "part",
+    "read",
+    "write",
+    "write_end",
+    "host",
+];
+
+/// A call of a kind, or nothing where there is no such kind.
+pub fn call(c: &mut Chance, kind: &str) -> Option<String> {
+    let rest = match kind {
+        "check_task" => task_text(&damaged_task(c)),
+        "check_table" => table_text(&given_table(c)),
+        "check_interface" => interface_text(&given_interface(c)),
+        "check_component" | "common_period" => component_text(&given_component(c)),
+        "common_divisor" => format!("{} {}", any_number(c), any_number(c)),
+        "demand" => {
+            let table = given_table(c);
+            format!("{} {}", table_text(&table), instant(c))
+        }
+        "supply" => format!("{} {}", interface_text(&given_interface(c)), instant(c)),
+        "add_task" => format!("{} {}", component_text(&given_component(c)), task_text(&given_task(c))),
+        "remove_task" => {
+            let component = given_component(c);
+            format!("{} {}", component_text(&component), place(c, component.table.count))
+        }
+        "legal" => legal(c),
+        "walk" => walk(c),
+        "verdict" | "margin" | "capacity" => component_text(&judged_component(c)),
+        "sheet" => row_text(&given_sheet(c)),
+        "part" | "read" => {
+            let (row, count) = counted_sheet(c);
+            format!("{} {}", row_text(&row), place(c, count))
+        }
+        "write" => {
+            let component = given_component(c);
+            let length = 18 + 16 * component.table.count.min(64);
+            room(c, &component_text(&component), length)
+        }
+        "write_end" => {
+            let count = c.pick(&[0, 1, 2, 255, 256, 257, 65_535]);
+            room(c, &count.to_string(), 6)
+        }
+        "host" => {
+            let (row, count) = counted_sheet(c);
+            let chosen = place(c, count);
+            room(c, &format!("{} {chosen}", row_text(&row)), 24)
+        }
+        _ => return None,
+    };
+    Some(format!("{kind} {rest}"))
+}
+
+fn task_text(task: &Task) -> String {
+    format!("{} {} {}", task.period, task.work, task.deadline)
+}
+
+fn interface_text(interface: &Interface) -> String {
+    format!("{} {} {}", interface.period, interface.capacity, interface.deadline)
+}
+
+/// A number at the end of a range, or anywhere.
+fn odd_number(c: &mut Chance) -> u32 {
+    match c.below(3) {
+        0 => c.pick(&[0, 1, 2, 1_048_575, 1_048_576, 1_048_577, 2_147_483_647, 2_147_483_648, 4_294_967_294, u32::MAX]),
+        1 => c.below(20) as u32,
+        _ => c.next() as u32,
+    }
+}
+
+fn any_number(c: &mut Chance) -> u32 {
+    match c.below(3) {
+        0 => odd_number(c),
+        1 => c.between(0, 64) as u32,
+        _ => c.between(0, LIMIT) as u32,
+    }
+}
+
+fn instant(c: &mut Chance) -> u32 {
+    match c.below(8) {
+        0 => odd_number(c),
+        1 => c.between(0, LIMIT) as u32,
+        _ => c.below(60) as u32,
+    }
+}
+
+/// A size of time: mostly small, so that what is made of it meets often.
+fn size(c: &mut Chance) -> u32 {
+    match c.below(12) {
+        0 => c.between(1, LIMIT) as u32,
+        1 => 1 << c.below(21),
+        2 | 3 => c.between(1, 1_000) as u32,
+        _ => c.between(1, 12) as u32,
+    }
+}
+
+fn task_within(c: &mut Chance, period: u32) -> Task {
+    let deadline = if c.one_in(3) { period } else { c.between(1, period as u64) as u32 };
+    let work = if c.one_in(4) { c.between(1, deadline as u64) } else { c.between(1, 1 + deadline as u64 / 4) } as u32;
+    Task::new(period, work.min(deadline), deadline)
+}
+
+fn task(c: &mut Chance) -> Task {
+    let period = size(c);
+    task_within(c, period)
+}
+
+fn damage_task(c: &mut Chance, task: &mut Task) {
+    let value = odd_number(c);
+    match c.below(6) {
+        0 => task.period = value,
+        1 => task.work = value,
+        2 => task.deadline = value,
+        3 => task.deadline = task.period.wrapping_add(1),
+        4 => task.work = task.deadline.wrapping_add(1),
+        _ => task.work = 0,
+    }
+}
+
+fn damaged_task(c: &mut Chance) -> Task {
+    let mut made = task(c);
+    if c.one_in(2) {
+        damage_task(c, &mut made);
+    }
+    made
+}
+
+fn given_task(c: &mut Chance) -> Task {
+    let mut made = task(c);
+    if c.one_in(8) {
+        damage_task(c, &mut made);
+    }
+    made
+}
+
+/// A table that is sometimes empty, full or over-full, and sometimes has a task out of range.
+fn given_table(c: &mut Chance) -> Table {
+    let count = match c.below(16) {
+        0 => c.pick(&[65, 66, 70, 1 << 32, u64::MAX]),
+        1 => c.pick(&[0, 63, 64]),
+        2 => c.below(65),
+        _ => c.below(6),
+    };
+    let mut tasks: Vec<Task> = (0..count.min(64)).map(|_| task(c)).collect();
+    if c.one_in(6) && !tasks.is_empty() {
+        let chosen = c.below(tasks.len() as u64) as usize;
+        damage_task(c, &mut tasks[chosen]);
+    }
+    Table { count, tasks }
+}
+
+fn interface(c: &mut Chance) -> Interface {
+    let period = size(c);
+    let deadline = if c.one_in(3) { period } else { c.between(1, period as u64) as u32 };
+    let capacity = match c.below(6) {
+        0 => 0,
+        1 => deadline,
+        _ => c.between(0, deadline as u64) as u32,
+    };
+    Interface::new(period, capacity, deadline)
+}
+
+fn given_interface(c: &mut Chance) -> Interface {
+    let mut made = interface(c);
+    if c.one_in(4) {
+        let value = odd_number(c);
+        match c.below(6) {
+            0 => made.period = value,
+            1 => made.capacity = value,
+            2 => made.deadline = value,
+            3 => made.capacity = made.deadline.wrapping_add(1),
+            4 => made.deadline = made.period.wrapping_add(1),
+            _ => made.deadline = 0,
+        }
+    }
+    made
+}
+
+fn component_of(c: &mut Chance, interface: Interface, table: Table) -> Component {
+    let number = match c.below(4) {
+        0 => c.pick(&[0, 1, 65_534, 65_535]),
+        _ => c.below(1 << 16) as u16,
+    };
+    let capacity = if c.one_in(2) { Capacity::Asked } else { Capacity::Stated(interface.capacity) };
+    Component { number, period: interface.period, capacity, deadline: interface.deadline, table }
+}
+
+fn given_component(c: &mut Chance) -> Component {
+    let interface = given_interface(c);
+    let table = given_table(c);
+    component_of(c, interface, table)
+}
+
+/// A component whose common period divides a chosen number, so that most are judged; asked ones have small deadlines where
+/// that number is large, since the plain search tries every capacity.
+fn judged_component(c: &mut Chance) -> Component {
+    if c.one_in(10) {
+        let mut made = given_component(c);
+        if made.common_period().is_ok_and(|common| common > 5_000) {
+            made.capacity = Capacity::Stated(made.deadline / 2);
+        }
+        return made;
+    }
+    let common: u32 = match c.below(100) {
+        0 => c.pick(&[1_048_576, 720_720, 1_000_000, 1_048_574]),
+        1..=4 => c.pick(&[5_040, 27_720, 65_536, 30_030]),
+        _ => c.pick(&[1, 6, 12, 24, 30, 48, 60, 84, 120, 210, 360, 420, 840]),
+    };
+    let divisors: Vec<u32> = (1..=common.min(2_000)).filter(|d| common % d == 0).chain([common]).collect();
+    let small: Vec<u32> = divisors.iter().copied().filter(|&d| d <= 64).collect();
+    let period = if common > 1_000 { c.pick(&small) } else { c.pick(&divisors) };
+    let deadline = if c.one_in(2) { period } else { c.between(1, period as u64) as u32 };
+    let capacity = if c.one_in(8) { deadline } else { c.between(0, deadline as u64) as u32 };
+    let count = match c.below(30) {
+        0 if common <= 5_040 => 64,
+        1..=3 => 0,
+        _ => c.between(1, 5),
+    };
+    let tasks = (0..count).map(|_| {
+        let own = c.pick(&divisors);
+        let mut made = task_within(c, own);
+        if c.one_in(2) {
+            made.work = made.work.min(1 + own / (count as u32 * 2 + 1));
+        }
+        made
+    });
+    let table = Table::new(tasks.collect());
+    component_of(c, Interface::new(period, capacity, deadline), table)
+}
+
+/// A place among so many: mostly one of them, else just past them or far off.
+fn place(c: &mut Chance, count: u64) -> u64 {
+    match c.below(8) {
+        0 => count.min(300),
+        1 => c.pick(&[0, 1, 63, 64, 65, 255, 256, 1 << 32, u64::MAX]),
+        _ if count > 0 => c.below(count.min(300)),
+        _ => 0,
+    }
+}
+
+/// A call's words with a buffer's length and a place: room enough, just enough, one byte too few, or none.
+fn room(c: &mut Chance, words: &str, need: u64) -> String {
+    let at = c.pick(&[0, 1, 2, 7, 40]);
+    let length = match c.below(10) {
+        0 => (at + need).saturating_sub(1),
+        1 => c.below(need + 2),
+        2 => at,
+        3 => 0,
+        4 => at + need,
+        _ => at + need + c.below(20),
+    };
+    let at = match c.below(12) {
+        0 => length,
+        1 => length + 1,
+        2 => u64::MAX,
+        _ => at,
+    };
+    format!("{words} {length} {at}")
+}
+
+fn bits(c: &mut Chance, length: u64) -> Vec<u8> {
+    let density = c.pick(&[1, 2, 4]);
+    (0..length).map(|_| c.one_in(density) as u8).collect()
+}
+
+/// A trace near the border of legality: the worst one, sometimes with a slot turned or at another offset, or by chance.
+fn near_trace(c: &mut Chance, interface: &Interface, length: u64) -> (u64, Vec<u8>) {
+    if interface.check().is_err() {
+        return (c.below(4), bits(c, length));
+    }
+    if c.one_in(3) {
+        return (c.below(interface.period as u64), bits(c, length));
+    }
+    let (mut offset, mut row) = trace::worst(interface, length);
+    if c.one_in(3) && !row.is_empty() {
+        let slot = c.below(row.len() as u64) as usize;
+        row[slot] ^= 1;
+    }
+    match c.below(6) {
+        0 => offset = c.below(interface.period as u64),
+        1 => offset = interface.period as u64 - 1,
+        _ => {}
+    }
+    (offset, row)
+}
+
+fn trace_length(c: &mut Chance) -> u64 {
+    match c.below(400) {
+        0 => c.pick(&[65_535, 65_536, 65_537]),
+        1..=5 => c.below(3_000),
+        _ => c.below(50),
+    }
+}
+
+fn damage_trace(c: &mut Chance, row: &mut [u8]) {
+    if c.one_in(12) && !row.is_empty() {
+        let slot = c.below(row.len() as u64) as usize;
+        row[slot] = c.pick(&[2, 3, 128, 255]);
+    }
+}
+
+fn legal(c: &mut Chance) -> String {
+    let mut interface = given_interface(c);
+    if c.one_in(2) {
+        interface = Interface::new(6, 2, 4);
+    }
+    let length = trace_length(c);
+    let (mut offset, mut row) = near_trace(c, &interface, length);
+    damage_trace(c, &mut row);
+    if c.one_in(10) {
+        offset = c.pick(&[interface.period as u64, interface.period as u64 + 1, u32::MAX as u64]).min(u32::MAX as u64);
+    }
+    format!("{} {offset} {}", interface_text(&interface), row_text(&row))
+}
+
+/// Legal arrivals of a table over so many slots: task, release, work.
+fn arrivals(c: &mut Chance, table: &Table, slots: u64) -> Vec<(u64, u32, u32)> {
+    let mut all = vec![];
+    for (number, task) in table.tasks.iter().enumerate() {
+        let mut release = if c.one_in(2) { 0 } else { c.below(8) };
+        while release < slots && all.len() < 1_200 {
+            let work = if c.one_in(2) { task.work as u64 } else { c.between(1, task.work.max(1) as u64) };
+            all.push((release, number as u32, work as u32));
+            release += task.period.max(1) as u64 + if c.one_in(3) { c.below(5) } else { 0 };
+        }
+    }
+    all.sort();
+    all
+}
+
+fn damage_jobs(c: &mut Chance, jobs: &mut [(u64, u32, u32)]) {
+    if jobs.is_empty() {
+        return;
+    }
+    let chosen = c.below(jobs.len() as u64) as usize;
+    match c.below(6) {
+        0 => jobs[chosen].0 += c.pick(&[1, 2, 60, 70_000]),
+        1 => jobs[chosen].1 = c.pick(&[0, 1, 2, 63, 64, 65, u32::MAX]),
+        2 => jobs[chosen].2 = c.pick(&[0, 1, 2, 5, u32::MAX]),
+        3 => jobs.swap(0, chosen),
+        4 => jobs[chosen].0 = jobs[chosen].0.saturating_sub(1),
+        _ => jobs[chosen].2 += 1,
+    }
+}
+
+fn list(values: impl ExactSizeIterator<Item = u64>) -> String {
+    let count = values.len();
+    values.fold(count.to_string(), |text, value| format!("{text} {value}"))
+}
+
+fn walk(c: &mut Chance) -> String {
+    let table = if c.one_in(8) {
+        given_table(c)
+    } else {
+        let count = c.between(0, 4);
+        let periods = [3, 4, 5, 6, 8, 10, 12];
+        Table::new((0..count).map(|_| {
+            let period = c.pick(&periods);
+            task_within(c, period)
+        }).collect())
+    };
+    let slots = trace_length(c);
+    let mut jobs = arrivals(c, &table, slots);
+    if !c.one_in(40) {
+        jobs.truncate(1_024);
+    }
+    if c.one_in(5) {
+        damage_jobs(c, &mut jobs);
+    }
+    let mut row = bits(c, slots);
+    damage_trace(c, &mut row);
+    let mut lists = [
+        jobs.iter().map(|j| j.1 as u64).collect::<Vec<u64>>(),
+        jobs.iter().map(|j| j.0.min(u32::MAX as u64)).collect(),
+        jobs.iter().map(|j| j.2 as u64).collect(),
+    ];
+    if c.one_in(20) {
+        lists[c.below(3) as usize].pop();
+    }
+    let length = match c.below(12) {
+        0 => jobs.len() as u64 + 1,
+        1 => (jobs.len() as u64).saturating_sub(1),
+        _ => jobs.len() as u64,
+    };
+    let texts: Vec<String> = lists.into_iter().map(|values| list(values.into_iter())).collect();
+    format!("{} {} {} {length}", table_text(&table), texts.join(" "), row_text(&row))
+}
+
+/// Components in range with rising numbers, small enough to be judged quickly.
+fn components(c: &mut Chance, count: u64) -> Vec<Component> {
+    let mut number = if c.one_in(4) { 0 } else { c.below(100) as u16 };
+    let mut all = vec![];
+    for _ in 0..count {
+        let mut made = judged_component(c);
+        while made.check().is_err() {
+            made = judged_component(c);
+        }
+        made.number = number;
+        number = number.saturating_add(c.between(1, 200) as u16);
+        all.push(made);
+    }
+    all
+}
+
+fn sheet_of(components: &[Component]) -> Vec<u8> {
+    let mut bytes: Vec<u8> = components.iter().flat_map(sheet::component_bytes).collect();
+    bytes.extend(sheet::end_bytes(components.len() as u16));
+    bytes
+}
+
+/// A sheet of exactly 65,536 bytes: 36 stated and 31 asked components with 4,028 tasks among them.
+fn full_sheet(c: &mut Chance) -> Vec<u8> {
+    let mut left = 4_028;
+    let components: Vec<Component> = (0..67u16).map(|number| {
+        let own = left.min(64);
+        left -= own;
+        let capacity = if number < 36 { Capacity::Stated(1) } else { Capacity::Asked };
+        let tasks = (0..own).map(|_| Task::new(c.pick(&[2, 3, 4, 6]), 1, 2));
+        Component { number, period: 6, capacity, deadline: 2, table: Table::new(tasks.collect()) }
+    }).collect();
+    sheet_of(&components)
+}
+
+/// 256 or 257 components without tasks.
+fn many_components(c: &mut Chance) -> Vec<u8> {
+    let count = c.pick(&[256u16, 257]);
+    let components: Vec<Component> = (0..count).map(|number| {
+        let interface = Interface::new(6, 2, 4);
+        Component { number, ..component_of(c, interface, Table::new(vec![])) }
+    }).collect();
+    sheet_of(&components)
+}
+
+/// A component with 65 tasks, which a sheet can't hold.
+fn too_many_tasks(c: &mut Chance) -> Vec<u8> {
+    let count = c.pick(&[64, 65]);
+    let tasks = vec![Task::new(8, 2, 8); count];
+    sheet_of(&[Component { number: 4, period: 6, capacity: Capacity::Asked, deadline: 4, table: Table::new(tasks) }])
+}
+
+fn damage_sheet(c: &mut Chance, bytes: &mut Vec<u8>) {
+    let length = bytes.len() as u64;
+    let starts = record_places(bytes);
+    let start = c.pick(&starts);
+    match c.below(12) {
+        0 => bytes.truncate(c.below(length) as usize),
+        1 => bytes.truncate(start),
+        2 => bytes.truncate((start + c.below(6) as usize).min(bytes.len())),
+        3 => {
+            let at = c.below(length) as usize;
+            bytes[at] = c.next() as u8;
+        }
+        4 => bytes[start] = c.pick(&[0, 4, 6, 14, 16, 18, 255]),
+        5 => bytes[start + 2] = c.pick(&[0, 1, 2, 3, 4, 5, 16]),
+        6 => bytes.extend(sheet::end_bytes(0)),
+        7 => bytes.push(c.next() as u8),
+        8 => {
+            let at = (start + 4 + c.below(14) as usize).min(bytes.len() - 1);
+            bytes[at] = c.pick(&[0, 1, 16, 255]);
+        }
+        9 | 10 => {
+            let low = c.below(2) as u8;
+            bytes[start + 4..start + 6].copy_from_slice(&[low, 0]);
+        }
+        _ => {
+            bytes.drain(..start);
+        }
+    }
+}
+
+fn record_places(bytes: &[u8]) -> Vec<usize> {
+    let mut places = vec![];
+    let mut at = 0;
+    while let Ok((_, fields)) = sheet::record(bytes, at) {
+        places.push(at);
+        at += fields.len();
+    }
+    places
+}
+
+/// A sheet, sound or damaged, and how many components were put into it.
+fn counted_sheet(c: &mut Chance) -> (Vec<u8>, u64) {
+    match c.below(300) {
+        0 => {
+            let mut bytes = full_sheet(c);
+            if c.one_in(2) {
+                bytes.push(0);
+            }
+            return (bytes, 67);
+        }
+        1 => return (many_components(c), 256),
+        2 | 3 => return (too_many_tasks(c), 1),
+        _ => {}
+    }
+    let count = match c.below(10) {
+        0 => 0,
+        1 => c.below(12),
+        _ => c.between(1, 3),
+    };
+    let mut bytes = sheet_of(&components(c, count));
+    if c.one_in(2) {
+        damage_sheet(c, &mut bytes);
+    }
+    (bytes, count)
+}
+
+fn given_sheet(c: &mut Chance) -> Vec<u8> {
+    counted_sheet(c).0
+}
+
+#[cfg(test)]
+mod tests {
+    use super::*;
+    use crate::calls;
+
+    #[test]
+    fn every_kind_makes_calls_that_are_answered() {
+        let mut c = Chance::new(7);
+        for kind in KINDS {
+            for _ in 0..50 {
+                let made = call(&mut c, kind).unwrap();
+                assert!(calls::answer(&made).is_ok(), "{made}");
+            }
+        }
+        assert!(call(&mut c, "no such kind").is_none());
+    }
+
+    #[test]
+    fn the_full_sheet_is_as_long_as_a_sheet_can_be() {
+        let bytes = full_sheet(&mut Chance::new(1));
+        assert_eq!(bytes.len(), sheet::BYTES);
+        assert_eq!(sheet::read(&bytes).unwrap().len(), 67);
+    }
+}

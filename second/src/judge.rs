@@ -1,0 +1,198 @@
+//! Verdict, margin and smallest capacity by plain search: every instant, every capacity from 0 up.
+
+use crate::demand::demand;
+use crate::numbers::{Capacity, Component, Interface, Refusal, Table};
+use crate::supply::supply;
+
+#[derive(Clone, Copy, Debug, PartialEq, Eq)]
+pub enum Verdict {
+    Accepted,
+    Short(u64),
+    None,
+}
+
+/// A margin and the instant where it stands.
+pub type Margin = Option<(i64, u64)>;
+
+/// The smallest t from 1 to the common period where demand exceeds supply.
+pub fn first_short(interface: &Interface, table: &Table, common: u64) -> Option<u64> {
+    (1..=common).find(|&t| demand(table, t) > supply(interface, t))
+}
+
+/// The smallest capacity from 0 to the deadline with no short instant.
+pub fn smallest_capacity(component: &Component, common: u64) -> Option<u32> {
+    (0..=component.deadline).find(|&capacity| first_short(&component.interface(capacity), &component.table, common).is_none())
+}
+
+/// The least supply minus demand over the step instants, with the smallest such instant.
+pub fn least_margin(interface: &Interface, table: &Table, common: u64) -> Margin {
+    let mut least: Margin = None;
+    let mut before = 0;
+    for t in 1..=common {
+        let asked = demand(table, t);
+        if asked > before {
+            let margin = supply(interface, t) as i64 - asked as i64;
+            if least.is_none_or(|(smallest, _)| margin < smallest) {
+                least = Some((margin, t));
+            }
+        }
+        before = asked;
+    }
+    least
+}
+
+/// The capacity that a component is judged at: the stated one, or the smallest accepted one.
+pub fn capacity(component: &Component) -> Result<Option<u32>, Refusal> {
+    let common = component.common_period()?;
+    Ok(match component.capacity {
+        Capacity::Stated(units) => Some(units),
+        Capacity::Asked => smallest_capacity(component, common),
+    })
+}
+
+/// The verdict and the capacity that it speaks of, 0 for none.
+pub fn verdict(component: &Component) -> Result<(Verdict, u32), Refusal> {
+    let common = component.common_period()?;
+    Ok(match component.capacity {
+        Capacity::Stated(units) => match first_short(&component.interface(units), &component.table, common) {
+            Some(instant) => (Verdict::Short(instant), units),
+            None => (Verdict::Accepted, units),
+        },
+        Capacity::Asked => match smallest_capacity(component, common) {
+            Some(units) => (Verdict::Accepted, units),
+            None => (Verdict::None, 0),
+        },
+    })
+}
+
+/// The margin, measured at the stated capacity or the one found; none where there are no tasks or no capacity.
+pub fn margin(component: &Component) -> Result<Margin, Refusal> {
+    let common = component.common_period()?;
+    Ok(match capacity(component)? {
+        Some(units) => least_margin(&component.interface(units), &component.table, common),
+        None => None,
+    })
+}
+
+#[cfg(test)]
+mod tests {
+    use super::*;
+    use crate::chance::Chance;
+    use crate::numbers::Task;
+    use crate::run::{check_jobs, run, Jobs};
+    use crate::trace;
+
+    fn component(interface: (u32, Option<u32>, u32), tasks: &[(u32, u32, u32)]) -> Component {
+        let capacity = interface.1.map_or(Capacity::Asked, Capacity::Stated);
+        let table = Table::new(tasks.iter().map(|&(t, c, d)| Task::new(t, c, d)).collect());
+        Component { number: 1, period: interface.0, capacity, deadline: interface.2, table }
+    }
+
+    #[test]
+    fn figures_9_to_11() {
+        let nine = component((1, Some(1), 1), &[(4, 2, 4), (7, 3, 7)]);
+        assert_eq!(nine.common_period(), Ok(28));
+        assert_eq!(verdict(&nine), Ok((Verdict::Accepted, 1)));
+        assert_eq!(margin(&nine), Ok(Some((1, 8))));
+        let ten = component((1, Some(1), 1), &[(2, 1, 2), (3, 2, 3)]);
+        assert_eq!(verdict(&ten), Ok((Verdict::Short(6), 1)));
+        assert_eq!(margin(&ten).unwrap().unwrap().0, -1);
+        let eleven = component((6, Some(2), 4), &[(8, 2, 7)]);
+        assert_eq!(verdict(&eleven), Ok((Verdict::Short(7), 2)));
+        assert_eq!(margin(&eleven), Ok(Some((-1, 7))));
+    }
+
+    #[test]
+    fn no_tasks_ask_no_capacity_and_have_no_margin() {
+        let empty = component((6, None, 4), &[]);
+        assert_eq!(verdict(&empty), Ok((Verdict::Accepted, 0)));
+        assert_eq!(margin(&empty), Ok(None));
+    }
+
+    /// All jobs of a table released at 0, T, 2T and so on before an instant, with their full work.
+    fn densest(table: &Table, slots: u64) -> Jobs {
+        let mut all: Vec<(u32, u32, u32)> = vec![];
+        for (number, task) in table.tasks.iter().enumerate() {
+            all.extend((0..slots as u32).step_by(task.period as usize).map(|release| (release, number as u32, task.work)));
+        }
+        all.sort();
+        Jobs { releases: all.iter().map(|j| j.0).collect(), tasks: all.iter().map(|j| j.1).collect(), works: all.iter().map(|j| j.2).collect() }
+    }
+
+    /// On the worst trace with the densest arrivals the first miss is exactly at the first short instant, and an accepted
+    /// component misses nothing over two common periods.
+    #[test]
+    fn the_constructed_run_misses_exactly_at_the_first_short_instant() {
+        let mut chance = Chance::new(1);
+        for _ in 0..3_000 {
+            let (interface, table) = small(&mut chance);
+            let common = with(interface, &table).common_period().unwrap();
+            let slots = 2 * common;
+            let (_, row) = trace::worst(&interface, slots);
+            let jobs = densest(&table, slots);
+            let miss = run(&table, &jobs, &row).miss.map(|(instant, _)| instant);
+            assert_eq!(miss, first_short(&interface, &table, common), "{interface:?} {table:?}");
+        }
+    }
+
+    /// Any legal arrivals on any legal trace never miss before the first short instant.
+    #[test]
+    fn no_legal_run_misses_earlier() {
+        let mut chance = Chance::new(2);
+        for _ in 0..20_000 {
+            let (interface, table) = small(&mut chance);
+            let common = with(interface, &table).common_period().unwrap();
+            let first = first_short(&interface, &table, common);
+            let slots = chance.below(60) as usize + 1;
+            let (offset, row) = legal_trace(&mut chance, &interface, slots);
+            assert!(trace::legal(&interface, offset, &row));
+            let jobs = arrivals(&mut chance, &table, slots as u32);
+            check_jobs(&table, &jobs, slots).unwrap();
+            if let Some((instant, _)) = run(&table, &jobs, &row).miss {
+                assert!(first.is_some_and(|short| short <= instant), "{interface:?} {table:?} {jobs:?} {row:?}");
+            }
+        }
+    }
+
+    fn with(interface: Interface, table: &Table) -> Component {
+        Component { number: 0, period: interface.period, capacity: Capacity::Stated(interface.capacity), deadline: interface.deadline, table: table.clone() }
+    }
+
+    fn small(chance: &mut Chance) -> (Interface, Table) {
+        let period = chance.between(1, 8) as u32;
+        let deadline = chance.between(1, period as u64) as u32;
+        let capacity = chance.between(0, deadline as u64) as u32;
+        let tasks = (0..chance.between(1, 3)).map(|_| {
+            let period = chance.between(1, 9) as u32;
+            let deadline = chance.between(1, period as u64) as u32;
+            Task::new(period, chance.between(1, deadline.min(3) as u64) as u32, deadline)
+        });
+        (Interface::new(period, capacity, deadline), Table::new(tasks.collect()))
+    }
+
+    /// A random trace, mended by supplying slots from the end of each period's first Δ places until it is legal.
+    fn legal_trace(chance: &mut Chance, interface: &Interface, slots: usize) -> (u64, Vec<u8>) {
+        let offset = chance.below(interface.period as u64);
+        let mut row: Vec<u8> = (0..slots).map(|_| chance.one_in(4) as u8).collect();
+        for slot in (0..slots).rev() {
+            if trace::legal(interface, offset, &row) {
+                break;
+            }
+            row[slot] = 1;
+        }
+        (offset, row)
+    }
+
+    fn arrivals(chance: &mut Chance, table: &Table, slots: u32) -> Jobs {
+        let mut all: Vec<(u32, u32, u32)> = vec![];
+        for (number, task) in table.tasks.iter().enumerate() {
+            let mut release = if chance.one_in(2) { 0 } else { chance.below(6) as u32 };
+            while release < slots {
+                all.push((release, number as u32, chance.between(1, task.work as u64) as u32));
+                release += task.period + if chance.one_in(3) { chance.below(5) as u32 } else { 0 };
+            }
+        }
+        all.sort();
+        Jobs { releases: all.iter().map(|j| j.0).collect(), tasks: all.iter().map(|j| j.1).collect(), works: all.iter().map(|j| j.2).collect() }
+    }
+}

@@ -1,0 +1,97 @@
+//! The second program: the rules in plain Rust, written from the rules alone, for the proved program to be held against.
+
+mod calls;
+mod chance;
+mod coverage;
+mod demand;
+mod generate;
+mod judge;
+mod listing;
+mod numbers;
+mod run;
+mod sheet;
+mod supply;
+mod text;
+mod trace;
+
+use std::io::{BufRead, BufWriter, Read, Write};
+use std::process::ExitCode;
+
+const USAGE: &str = "second answer              calls on standard input to answers
+second generate SEED COUNT KIND   calls of a kind (`second kinds` lists them)
+second kinds               the kinds of call
+second list                the listing of the sheet on standard input
+second text                the sheet on standard input as text, one line a record
+second bytes               such a text on standard input as a sheet
+second coverage            counts what the calls on standard input reach, and fails if something is not reached";
+
+fn input() -> Result<Vec<u8>, String> {
+    let mut bytes = vec![];
+    std::io::stdin().read_to_end(&mut bytes).map_err(|error| error.to_string())?;
+    Ok(bytes)
+}
+
+/// Writes a line for each call read from standard input.
+fn each_call(mut work: impl FnMut(&str, &str) -> Result<(), String>) -> Result<(), String> {
+    for (place, line) in std::io::stdin().lock().lines().enumerate() {
+        let line = line.map_err(|error| error.to_string())?;
+        let answer = calls::answer(&line).map_err(|wrong| format!("line {}: {wrong}", place + 1))?;
+        work(&line, &answer)?;
+    }
+    Ok(())
+}
+
+fn command(words: &[&str]) -> Result<(), String> {
+    let mut out = BufWriter::new(std::io::stdout().lock());
+    let said = |result: std::io::Result<()>| result.map_err(|error| error.to_string());
+    match words {
+        ["answer"] => each_call(|_, answer| said(writeln!(out, "{answer}")))?,
+        ["generate", seed, count, kind] => {
+            let numbers = (seed.parse::<u64>(), count.parse::<u64>());
+            let (Ok(seed), Ok(count)) = numbers else { return Err(USAGE.to_string()) };
+            let mut chance = chance::Chance::new(seed);
+            for _ in 0..count {
+                let call = generate::call(&mut chance, kind).ok_or_else(|| format!("`{kind}` is no kind of call"))?;
+                said(writeln!(out, "{call}"))?;
+            }
+        }
+        ["kinds"] => {
+            for kind in generate::KINDS {
+                said(writeln!(out, "{kind}"))?;
+            }
+        }
+        ["list"] => said(out.write_all(listing::listing(&input()?).as_bytes()))?,
+        ["text"] => said(out.write_all(text::text(&input()?)?.as_bytes()))?,
+        ["bytes"] => {
+            let written = String::from_utf8(input()?).map_err(|_| "the text is not UTF-8".to_string())?;
+            said(out.write_all(&text::bytes(&written)?))?;
+        }
+        ["coverage"] => {
+            let mut seen = coverage::Seen::default();
+            each_call(|call, answer| {
+                seen.count(call, answer);
+                Ok(())
+            })?;
+            let (report, missing) = seen.report();
+            said(write!(out, "{report}"))?;
+            said(out.flush())?;
+            if missing > 0 {
+                return Err(format!("{missing} not reached"));
+            }
+        }
+        _ => return Err(USAGE.to_string()),
+    }
+    said(out.flush())
+}
+
+fn main() -> ExitCode {
+    let words: Vec<String> = std::env::args().skip(1).collect();
+    let words: Vec<&str> = words.iter().map(String::as_str).collect();
+    match command(&words) {
+        Ok(()) => ExitCode::SUCCESS,
+        Err(message) => {
+            eprintln!("second: {message}");
+            ExitCode::from(2)
+        }
+    }
+}

@@ -1,0 +1,205 @@
+//! Tasks, interfaces and components, their ranges and their common period.
+
+/// The largest period, deadline, common period and instant.
+pub const LIMIT: u64 = 1_048_576;
+/// The most tasks of a component.
+pub const TASKS: u64 = 64;
+
+/// A refusal's number, as the rules list them.
+pub type Refusal = u16;
+
+#[derive(Clone, Copy, Debug, PartialEq, Eq)]
+pub struct Task {
+    pub period: u32,
+    pub work: u32,
+    pub deadline: u32,
+}
+
+/// A task table as it is given: a count, which may be out of range, and the tasks of the places below it.
+#[derive(Clone, Debug, PartialEq, Eq)]
+pub struct Table {
+    pub count: u64,
+    pub tasks: Vec<Task>,
+}
+
+#[derive(Clone, Copy, Debug, PartialEq, Eq)]
+pub struct Interface {
+    pub period: u32,
+    pub capacity: u32,
+    pub deadline: u32,
+}
+
+#[derive(Clone, Copy, Debug, PartialEq, Eq)]
+pub enum Capacity {
+    Stated(u32),
+    Asked,
+}
+
+#[derive(Clone, Debug, PartialEq, Eq)]
+pub struct Component {
+    pub number: u16,
+    pub period: u32,
+    pub capacity: Capacity,
+    pub deadline: u32,
+    pub table: Table,
+}
+
+impl Task {
+    pub fn new(period: u32, work: u32, deadline: u32) -> Task {
+        Task { period, work, deadline }
+    }
+
+    /// 1 ≤ C ≤ D ≤ T ≤ 1,048,576, else 9.
+    pub fn check(&self) -> Result<(), Refusal> {
+        let fits = 1 <= self.work && self.work <= self.deadline && self.deadline <= self.period && self.period as u64 <= LIMIT;
+        if fits { Ok(()) } else { Err(9) }
+    }
+}
+
+impl Table {
+    pub fn new(tasks: Vec<Task>) -> Table {
+        Table { count: tasks.len() as u64, tasks }
+    }
+
+    /// More than 64 tasks is 6, then any task out of range is 9.
+    pub fn check(&self) -> Result<(), Refusal> {
+        if self.count > TASKS {
+            return Err(6);
+        }
+        self.tasks.iter().try_for_each(Task::check)
+    }
+}
+
+impl Interface {
+    pub fn new(period: u32, capacity: u32, deadline: u32) -> Interface {
+        Interface { period, capacity, deadline }
+    }
+
+    /// 0 ≤ Θ ≤ Δ ≤ Π ≤ 1,048,576 and Δ ≥ 1, else 9.
+    pub fn check(&self) -> Result<(), Refusal> {
+        let fits = self.capacity <= self.deadline && self.deadline <= self.period && self.period as u64 <= LIMIT && self.deadline >= 1;
+        if fits { Ok(()) } else { Err(9) }
+    }
+}
+
+impl Component {
+    /// What stands where an edit or a reading is refused: number 0, stated (1, 1, 1), without tasks.
+    pub fn refused() -> Component {
+        Component { number: 0, period: 1, capacity: Capacity::Stated(1), deadline: 1, table: Table::new(vec![]) }
+    }
+
+    /// The interface at a capacity.
+    pub fn interface(&self, capacity: u32) -> Interface {
+        Interface { period: self.period, capacity, deadline: self.deadline }
+    }
+
+    /// 6, then 9; an asked capacity has no range of its own.
+    pub fn check(&self) -> Result<(), Refusal> {
+        if self.table.count > TASKS {
+            return Err(6);
+        }
+        let capacity = match self.capacity {
+            Capacity::Stated(units) => units,
+            Capacity::Asked => 0,
+        };
+        self.interface(capacity).check()?;
+        self.table.check()
+    }
+
+    /// 6, 9, and 10 where the least common multiple of Π and all T is above the limit.
+    pub fn common_period(&self) -> Result<u64, Refusal> {
+        self.check()?;
+        let mut common = self.period as u64;
+        for task in &self.table.tasks {
+            let period = task.period as u64;
+            common = common / common_divisor(common, period) * period;
+            if common > LIMIT {
+                return Err(10);
+            }
+        }
+        Ok(common)
+    }
+}
+
+/// Euclid's remainder rule, which ends at zero.
+pub fn common_divisor(a: u64, b: u64) -> u64 {
+    if b == 0 { a } else { common_divisor(b, a % b) }
+}
+
+/// Adding a task: 6 (also when 64 stand already), 9; the new task comes last.
+pub fn add_task(component: &Component, task: Task) -> Result<Component, Refusal> {
+    if component.table.count >= TASKS {
+        return Err(6);
+    }
+    component.check()?;
+    task.check()?;
+    let mut edited = component.clone();
+    edited.table.tasks.push(task);
+    edited.table.count += 1;
+    Ok(edited)
+}
+
+/// Removing the task at a place: 6, 9, 15; later tasks move down one.
+pub fn remove_task(component: &Component, place: u64) -> Result<Component, Refusal> {
+    component.check()?;
+    if place >= component.table.count {
+        return Err(15);
+    }
+    let mut edited = component.clone();
+    edited.table.tasks.remove(place as usize);
+    edited.table.count -= 1;
+    Ok(edited)
+}
+
+#[cfg(test)]
+mod tests {
+    use super::*;
+
+    fn component(period: u32, tasks: &[(u32, u32, u32)]) -> Component {
+        let tasks = tasks.iter().map(|&(t, c, d)| Task::new(t, c, d)).collect();
+        Component { number: 1, period, capacity: Capacity::Asked, deadline: 1, table: Table::new(tasks) }
+    }
+
+    #[test]
+    fn ranges_end_where_the_rules_say() {
+        assert!(Task::new(1_048_576, 1, 1_048_576).check().is_ok());
+        assert!(Task::new(1_048_577, 1, 1).check().is_err());
+        assert!(Task::new(5, 0, 5).check().is_err());
+        assert!(Task::new(5, 4, 3).check().is_err());
+        assert!(Task::new(5, 4, 6).check().is_err());
+        assert!(Interface::new(1_048_576, 0, 1).check().is_ok());
+        assert!(Interface::new(1, 0, 0).check().is_err());
+        assert!(Interface::new(4, 3, 2).check().is_err());
+        assert!(Interface::new(4, 3, 5).check().is_err());
+    }
+
+    #[test]
+    fn the_common_period_is_the_least_multiple() {
+        for a in 1..40u32 {
+            for b in 1..40u32 {
+                let least = (1..).find(|m| m % a == 0 && m % b == 0).unwrap();
+                assert_eq!(component(a, &[(b, 1, 1)]).common_period(), Ok(least as u64));
+            }
+        }
+        assert_eq!(component(1, &[(4, 2, 4), (7, 3, 7)]).common_period(), Ok(28));
+        assert_eq!(component(9, &[]).common_period(), Ok(9));
+    }
+
+    #[test]
+    fn the_limit_of_the_common_period() {
+        assert_eq!(component(1, &[(1_048_576, 1, 1)]).common_period(), Ok(LIMIT));
+        assert_eq!(component(3, &[(1_048_576, 1, 1)]).common_period(), Err(10));
+    }
+
+    #[test]
+    fn edits_keep_the_order_of_tasks() {
+        let start = component(6, &[(8, 2, 8), (4, 1, 4), (5, 1, 5)]);
+        let fewer = remove_task(&start, 1).unwrap();
+        assert_eq!(fewer, component(6, &[(8, 2, 8), (5, 1, 5)]));
+        let more = add_task(&fewer, Task::new(4, 1, 4)).unwrap();
+        assert_eq!(more, component(6, &[(8, 2, 8), (5, 1, 5), (4, 1, 4)]));
+        assert_eq!(remove_task(&start, 3), Err(15));
+        let full = component(6, &[(8, 2, 8); 64]);
+        assert_eq!(add_task(&full, Task::new(0, 0, 0)), Err(6));
+    }
+}
