@@ -1,0 +1,43 @@
+// An answer is put into a lent row from a place on; what does not fit is left out.
+
+// Puts a byte and answers the next place.
+pub fn put_byte(out: &mut [u8], at: usize, byte: u8) -> usize {
+    if at < out.len() {
+        out[at] = byte;
+        return at + 1;
+    }
+    at
+}
+
+// Puts a text and answers the next place.
+pub fn put_text(out: &mut [u8], start: usize, text: &[u8]) -> usize {
+    let mut at = start;
+    let mut i = 0;
+    while i < text.len() {
+        at = put_byte(out, at, text[i]);
+        i += 1;
+    }
+    at
+}
+
+// Puts a space and a number.
+pub fn put_number(out: &mut [u8], start: usize, value: u64) -> usize {
+    let mut digits = [0u8; 20];
+    let count = io::decimal(value, &mut digits);
+    let at = put_byte(out, start, b' ');
+    put_text(out, at, &digits[..count])
+}
+
+// Puts a space and a number of 32 bits.
+pub fn put_long(out: &mut [u8], start: usize, value: u32) -> usize {
+    put_number(out, start, value as u64)
+}
+
+// Puts `ok`, or `refused` and its number.
+pub fn put_refusal(out: &mut [u8], refusal: u16) -> usize {
+    if refusal == 0 {
+        return put_text(out, 0, b"ok");
+    }
+    let at = put_text(out, 0, b"refused");
+    put_number(out, at, refusal as u64)
+}
