@@ -2,13 +2,22 @@
 use crate::numbers;
 use crate::print;
 
+// The answer to a line, tried group by group.
+fn answer_text(line: &[u8], out: &mut [u8]) -> usize {
+    let at = numbers::checks(line, out);
+    if at > 0 {
+        return at;
+    }
+    let at = numbers::amounts(line, out);
+    if at > 0 {
+        return at;
+    }
+    print::put_text(out, 0, b"unknown")
+}
+
 // The answer to a line, with its end, as it is put into the row from the start on: the place after it.
 fn answer(line: &[u8], out: &mut [u8]) -> usize {
-    let at = numbers::answer(line, out);
-    if at > 0 {
-        return print::put_byte(out, at, b'\n');
-    }
-    let at = print::put_text(out, 0, b"unknown");
+    let at = answer_text(line, out);
     print::put_byte(out, at, b'\n')
 }
 

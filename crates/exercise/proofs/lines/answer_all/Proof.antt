@@ -4,7 +4,6 @@ use lib.ListN.{length}
 use mathlib.Core.Path.{_≡_}
 use Rattle.exercise.proofs.lines.answer_all.Statement.{statement}
 use Rattle.exercise.proofs.lines.answer_all.Tie as tie
-use Rattle.exercise.proofs.lines.turn.Reads as turn-reads
 
 abbrev Inv-loop : tie.InvT-loop
 Inv-loop row₀ held₀ turns₀ row held turns = length row ≡ 262144

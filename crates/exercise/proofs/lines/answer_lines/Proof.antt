@@ -2,8 +2,6 @@
 use borrow.Author.Needs.{needs}
 use Rattle.exercise.proofs.lines.answer_lines.Statement.{statement}
 use Rattle.exercise.proofs.lines.answer_lines.Tie as tie
-use Rattle.exercise.proofs.lines.line_end.Reads as line-end-reads
-use Rattle.exercise.proofs.lines.write_answer.Reads as write-answer-reads
 
 abbrev Inv-loop : tie.InvT-loop
 Inv-loop held start₀ turns₀ start turns = Unit {0}

@@ -4,7 +4,6 @@ use Prim.Native.Nat.{_-_}
 use lib.ListN.{length}
 use Rattle.exercise.proofs.parse.read_number.Statement.{statement}
 use Rattle.exercise.proofs.parse.read_number.Tie as tie
-use Rattle.exercise.proofs.parse.with_digit.Reads as with-digit-reads
 
 abbrev Inv-loop : tie.InvT-loop
 Inv-loop line start at₀ value₀ at value = Unit {0}

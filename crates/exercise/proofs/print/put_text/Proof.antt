@@ -5,7 +5,6 @@ use lib.ListN.{length}
 use mathlib.Core.Path.{_≡_}
 use Rattle.exercise.proofs.print.put_text.Statement.{statement}
 use Rattle.exercise.proofs.print.put_text.Tie as tie
-use Rattle.exercise.proofs.print.put_byte.Reads as put-byte-reads
 
 abbrev Inv-loop : tie.InvT-loop
 Inv-loop out₀ start text at₀ i₀ out at i = length out ≡ length out₀
