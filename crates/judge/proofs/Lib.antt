@@ -1,3 +1,4 @@
+pub mod CapacityLaws
 pub mod Instants
 pub mod SearchLaws
 pub mod StepLaws

@@ -1,3 +1,4 @@
+pub mod Capacity
 pub mod Search
 pub mod Steps
 pub mod Verdict

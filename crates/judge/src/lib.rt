@@ -1,4 +1,5 @@
 // Verdict, margin and smallest capacity.
 pub mod answer;
+pub mod capacity;
 pub mod steps;
 pub mod verdict;

@@ -1,0 +1,77 @@
+// The smallest capacity that is accepted for a component's period, deadline and tasks.
+use crate::steps::columns_of;
+use crate::steps::pass;
+use budget::interface::Interface;
+use budget::quantity::Time;
+use budget::quantity::Units;
+use budget::supply::supply;
+use budget::task::Table;
+ghost use mathlib.Core.Path.{_≡_};
+ghost use Rattle.budget.specs.Interface.{interface};
+ghost use Rattle.budget.specs.Supply as Supply;
+ghost use Rattle.budget.specs.Task.{tasksOf};
+ghost use Rattle.judge.specs.Capacity.{Raisable, Raised, smallestCapacity};
+ghost use Rattle.judge.specs.Verdict.{Scannable};
+
+// The units at an instant for this capacity.
+fn units_at(period: Time, capacity: u32, deadline: Time, at: u32) -> u32
+    requires { ⌜ Raisable (period .0) (deadline .0) capacity at ⌝ }
+    ensures { λ r. ⌜ r ≡ Supply.supply (interface (period .0) capacity (deadline .0)) at ⌝ }
+{
+    let given = supply(
+        Interface {
+            period,
+            capacity: Units(capacity),
+            deadline,
+        },
+        Time(at),
+    );
+    given.units.0
+}
+
+// The smallest capacity from `from` on that supplies this demand at this instant, or the deadline + 1. Supply grows with the capacity, so halving finds it.
+fn raised(period: Time, from: u32, deadline: Time, at: u32, demand: u32) -> u32
+    requires { ⌜ Raisable (period .0) (deadline .0) from at ⌝ }
+    ensures { λ r. ⌜ Raised (period .0) (deadline .0) from at demand r ⌝ }
+{
+    if demand <= units_at(period, from, deadline, at) {
+        return from;
+    }
+    let mut low = from + 1;
+    let mut high = deadline.0 + 1;
+    while low < high {
+        let middle = low + (high - low) / 2;
+        if units_at(period, middle, deadline, at) < demand {
+            low = middle + 1;
+        } else {
+            high = middle;
+        }
+    }
+    low
+}
+
+// The smallest capacity from 0 to the deadline that fits at every instant up to `length`, or the deadline + 1. Supply grows with the capacity, so what
+// each step instant needs is taken one by one.
+fn least_capacity(table: Table, period: Time, deadline: Time, length: u32) -> u32
+    requires { ⌜ Scannable table (interface (period .0) 0 (deadline .0)) length ⌝ }
+    ensures { λ r. ⌜ r ≡ smallestCapacity (tasksOf table) (period .0) (deadline .0) length ⌝ }
+{
+    let columns = columns_of(table);
+    let periods = columns.period;
+    let works = columns.work;
+    let mut due = columns.due;
+    let last = deadline.0;
+    let mut demand = 0;
+    let mut at = 1;
+    let mut capacity = 0;
+    while at <= length {
+        let step = pass(&periods, &works, &mut due, table.count, at, demand);
+        demand = step.demand;
+        capacity = raised(period, capacity, deadline, at, demand);
+        if last < capacity {
+            return capacity;
+        }
+        at = step.next;
+    }
+    capacity
+}
