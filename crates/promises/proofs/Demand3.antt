@@ -18,7 +18,8 @@ use Rattle.run.specs.Run.{MissAt}
 use Rattle.trace.specs.Units.{units}
 use Rattle.trace.proofs.Units.{supplied-part}
 use Rattle.trace.proofs.Windows.{window-units}
-use Rattle.trace.proofs.WorstTrace.{worstOffset, worstTrace, worst-bits, worst-legal, worst-length, worst-prefix, worst-within}
+use Rattle.trace.specs.WorstTrace.{worstOffset, worstTrace}
+use Rattle.trace.proofs.WorstTrace.{worst-bits, worst-legal, worst-length, worst-prefix, worst-within}
 use Rattle.promises.specs.Demand3.{AcceptedNeverMisses, Balance, EarliestDeadlineFirst, Misses, NoMissWhileFitting, Run, ShortMissesThen, UrgentWork, WorkWithinDemand}
 use Rattle.promises.specs.Serving.{dueBy, unitOf, workOf}
 use Rattle.promises.specs.Synchronous.{synchronous}
@@ -99,6 +100,7 @@ short-misses-then ks i tasks interface t short =
     record {
       run = missing ks i tasks interface t;
       jobs = refl;
+      offset = refl;
       trace = refl;
       misses = it-misses ks i tasks interface t short;
       earliest = none-earlier ks i tasks interface t short;

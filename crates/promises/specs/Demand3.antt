@@ -14,7 +14,7 @@ use Rattle.budget.specs.Task.{validTasks}
 use Rattle.run.specs.Job.{Job, legalArrival}
 use Rattle.run.specs.Run.{MissAt}
 use Rattle.trace.specs.Legal.{Legal, zerosAndOnes}
-use Rattle.trace.proofs.WorstTrace.{worstTrace}
+use Rattle.trace.specs.WorstTrace.{worstOffset, worstTrace}
 use Rattle.judge.specs.Verdict.{Accepted, ShortAt}
 use Rattle.promises.specs.Serving.{Flow, Rule, UrgentFirst, Window, asked, dueBy, earliestDeadline, unitOf, waitingAt, workOf}
 use Rattle.promises.specs.Synchronous.{synchronous}
@@ -43,6 +43,7 @@ NeverMisses ks i = (run : Run ks i) (t : ℕ) → Misses ks i run t → ⊥
 pub record MissesFirstAt (ks : List Task) (i : Interface) (t : ℕ) : Type 0 where
   pub run : Run ks i
   pub jobs : run .jobs ≡ synchronous ks t
+  pub offset : run .offset ≡ worstOffset i
   pub trace : run .trace ≡ worstTrace i t
   pub misses : Misses ks i run t
   pub earliest : (other : Run ks i) (u : ℕ) → u < t → Misses ks i other u → ⊥

@@ -10,7 +10,8 @@ use Rattle.budget.proofs.Valid.{ValidInterface, valid-interface}
 use Rattle.trace.specs.Legal.{supplied}
 use Rattle.trace.specs.SupplyIsLeast.{LegalTrace, SupplyIsLeast}
 use Rattle.trace.proofs.Windows.{window-supply}
-use Rattle.trace.proofs.WorstTrace.{worstTrace, worstOffset, worst-within, worst-bits, worst-length, worst-legal, worst-prefix}
+use Rattle.trace.specs.WorstTrace.{worstOffset, worstTrace}
+use Rattle.trace.proofs.WorstTrace.{worst-within, worst-bits, worst-length, worst-legal, worst-prefix}
 
 module _ (i : Interface) (v : ValidInterface i) (t : ℕ) where
   lower : (w : LegalTrace i t) → supply i t ≤ supplied (w .trace)

@@ -1,26 +1,12 @@
 -- The trace that attains supply at each of its lengths: slot n gives what supply rises by from n to n + 1. It stands behind the units of a period
 -- that are given at its first places, so it is cut at place Θ from a supply that gives each period its capacity.
-use Prim.Native.Nat.{ℕ, zero, suc, _+_, _-_, _*_, _%_, _≤_, _<_}
+use Prim.Native.Nat.{ℕ, zero, suc, _+_, _-_, _*_, _≤_, _<_}
 use mathlib.Core.Path.{_≡_, refl, sym, ap, _∙_}
 use mathlib.Core.Bool.{Bool, true, false, cond}
-use mathlib.Core.List.{List, [], _∷_}
 use lib.ListN.{length, getD, take}
 use lib.Dec.{ltb}
 use borrow.Author.Tests.{lt-ltb, le-ltb, le-leb}
-use native.Mathlib.Nat.{
-  zero-add,
-  zero-mul,
-  add-zero,
-  add-suc,
-  suc-add,
-  add-sub-cancel-left,
-  le-refl,
-  le-dest,
-  le-of-suc-le-suc,
-  not-suc-le-zero,
-  le-suc,
-  mod-lt,
-}
+use native.Mathlib.Nat.{zero-add, zero-mul, add-zero, add-suc, suc-add, add-sub-cancel-left, le-refl, le-dest, le-of-suc-le-suc, not-suc-le-zero, le-suc, mod-lt}
 use native.Mathlib.Omega.{arith}
 use Rattle.budget.specs.declared.interface.Interface.{Interface}
 use Rattle.budget.specs.Interface.{Π, Θ, Δ}
@@ -29,14 +15,10 @@ use Rattle.budget.proofs.SupplyLaws.{supply-zero, supply-mono, supply-rise, sup
 use Rattle.budget.proofs.Valid.{ValidInterface, and-true}
 use Rattle.trace.specs.Legal.{zerosAndOnes, supplied, Legal}
 use Rattle.trace.specs.Units.{units}
+use Rattle.trace.specs.WorstTrace.{rise, slots, worstOffset, worstTrace}
 use Rattle.trace.proofs.Curve.{most, gain}
 use Rattle.trace.proofs.Units.{units-same, units-ones, supplied-part}
 use Rattle.trace.proofs.Windows.{cut-legal}
-
--- the n slots of f from slot x on
-slots : (ℕ → ℕ) → ℕ → ℕ → List ℕ
-slots f x zero = []
-slots f x (suc n) = f x ∷ slots f (suc x) n
 
 slots-length : (f : ℕ → ℕ) (x n : ℕ) → length (slots f x n) ≡ n
 unfolding slots
@@ -53,17 +35,6 @@ slots-bits : (f : ℕ → ℕ) → ((x : ℕ) → f x ≤ 1) → (x n : ℕ) →
 unfolding slots zerosAndOnes
 slots-bits f one x zero = refl
 slots-bits f one x (suc n) = and-true (le-leb (f x) 1 (one x)) (slots-bits f one (suc x) n)
-
--- the units of slot n: what supply rises by
-rise : Interface → ℕ → ℕ
-rise i n = supply i (suc n) - supply i n
-
-pub worstTrace : Interface → ℕ → List ℕ
-worstTrace i t = slots (rise i) 0 t
-
--- "begin the trace at place Θ (at 0 when Θ = Π)"
-abbrev pub worstOffset : Interface → ℕ
-worstOffset i = Θ i % Π i
 
 -- the supply that it is cut from: every slot before place Θ of the first period, and the worst from there on
 source : Interface → ℕ → ℕ

@@ -1,3 +1,4 @@
 pub mod Legal
 pub mod SupplyIsLeast
 pub mod Units
+pub mod WorstTrace
