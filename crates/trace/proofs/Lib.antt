@@ -1,6 +1,9 @@
 pub mod Curve
+pub mod OneAnswer
 pub mod Periods
+pub mod Refusals
 pub mod SupplyIsLeast
 pub mod Units
+pub mod Walk
 pub mod Windows
 pub mod WorstTrace

@@ -41,6 +41,12 @@ unfolding units
 units-none x zero = refl
 units-none x (suc n) = omega (arith, units-none x n)
 
+-- two sums that have one unit between them at each place
+pub units-both : (f g : ℕ → ℕ) (x y n : ℕ) → ((m : ℕ) → m < n → f (x + m) + g (y + m) ≡ 1) → units f x n + units g y n ≡ n
+unfolding units
+units-both f g x y zero h = refl
+units-both f g x y (suc n) h = omega (arith, units-both f g x y n (λ m l. h m (le-step l)), h n (lt-suc-self n))
+
 -- no more than one unit a place
 pub units-most : (f : ℕ → ℕ) → ((y : ℕ) → f y ≤ 1) → (x n : ℕ) → units f x n ≤ n
 units-most f h x n = omega (arith, units-ones x n, units-le f (λ y. 1) x x n (λ m l. h (x + m)))

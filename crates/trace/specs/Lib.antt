@@ -1,3 +1,4 @@
+pub mod Answer
 pub mod Legal
 pub mod SupplyIsLeast
 pub mod Units
