@@ -15,11 +15,17 @@ use Rattle.sheet.specs.declared.layout.Record.the-variants.{ComponentRec
 use Rattle.sheet.specs.Field.{encode, field}
 
 -- the bytes of a component record: kind 1 and 18 bytes where the capacity is stated, kind 4 and 14 bytes where it is asked
-unfoldable pub headBytes : ℕ → ℕ → Capacity → ℕ → List ℕ
-headBytes number period (Stated u) deadline =
-    encode 2 18 ++ (encode 2 1 ++ (encode 2 number ++ (encode 4 period ++ (encode 4 (u .0) ++ encode 4 deadline))))
-headBytes number period Asked deadline =
+unfoldable pub statedBytes : ℕ → ℕ → ℕ → ℕ → List ℕ
+statedBytes number period capacity deadline =
+    encode 2 18 ++ (encode 2 1 ++ (encode 2 number ++ (encode 4 period ++ (encode 4 capacity ++ encode 4 deadline))))
+
+unfoldable pub askedBytes : ℕ → ℕ → ℕ → List ℕ
+askedBytes number period deadline =
     encode 2 14 ++ (encode 2 4 ++ (encode 2 number ++ (encode 4 period ++ encode 4 deadline)))
+
+unfoldable pub headBytes : ℕ → ℕ → Capacity → ℕ → List ℕ
+headBytes number period (Stated u) deadline = statedBytes number period (u .0) deadline
+headBytes number period Asked deadline = askedBytes number period deadline
 
 unfoldable pub taskBytes : Task → List ℕ
 taskBytes k = encode 2 16 ++ (encode 2 2 ++ (encode 4 (T k) ++ (encode 4 (C k) ++ encode 4 (D k))))

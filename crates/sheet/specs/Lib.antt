@@ -2,3 +2,4 @@ pub mod Field
 pub mod Layout
 pub mod Check
 pub mod Part
+pub mod Writing

@@ -2,3 +2,4 @@
 pub mod check;
 pub mod field;
 pub mod layout;
+pub mod write;
