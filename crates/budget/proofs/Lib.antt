@@ -8,4 +8,5 @@ pub mod CommonPeriodLaws
 pub mod Places
 pub mod Within
 pub mod Ranges
-pub mod DueBound
+pub mod TableLaws
+pub mod Edits

@@ -32,10 +32,11 @@ ranges-passed true valid e = absurd (omega (arith, e))
 ranges-passed false true e = (refl, refl)
 ranges-passed false false e = absurd (omega (arith, e))
 
-ranges-failed : (over valid short : Bool) → (ranges over valid ≡ refusal.none → ⊥) → refusals over valid short ≡ ranges over valid
-ranges-failed true valid short h = refl
-ranges-failed false true short h = absurd (h refl)
-ranges-failed false false short h = refl
+-- whatever is asked after them, failed ranges decide
+ranges-failed : (over valid : Bool) (n : ℕ) → (ranges over valid ≡ refusal.none → ⊥) → cond over refusal.tasks (cond valid n refusal.range) ≡ ranges over valid
+ranges-failed true valid n h = refl
+ranges-failed false true n h = absurd (h refl)
+ranges-failed false false n h = refl
 
 all-passed : (over valid short : Bool) → refusals over valid short ≡ refusal.none → (ranges over valid ≡ refusal.none) × (short ≡ true)
 all-passed true valid short e = absurd (omega (arith, e))
@@ -62,18 +63,27 @@ in-range k e =
     let v = both (validInterface (interfaceOf k)) _ (p .1) in
     record { count = ltb-false _ _ (p .0); interface = v .0; tasks = v .1 }
 
-pub range-in : (k : Component) → InRange k → rangeRefusal k ≡ refusal.none
-unfolding rangeRefusal validComponent
-range-in k v = rw (le-ltb _ _ (v .count), v .interface, v .tasks)
+-- what the ranges are refused for a component is refused for, whatever is asked of it after them
+pub refused-first : (k : Component) (n : ℕ) → (rangeRefusal k ≡ refusal.none → ⊥) → cond (ltb most-tasks (k .table .count)) refusal.tasks (cond (validComponent k) n refusal.range) ≡ rangeRefusal k
+unfolding rangeRefusal
+refused-first k n h = ranges-failed (ltb most-tasks (k .table .count)) (validComponent k) n h
 
--- what the ranges are refused for the component is refused for; else its common period decides
+pub asked-next : (k : Component) (n : ℕ) → InRange k → cond (ltb most-tasks (k .table .count)) refusal.tasks (cond (validComponent k) n refusal.range) ≡ n
+unfolding validComponent
+asked-next k n v = rw (le-ltb _ _ (v .count), v .interface, v .tasks)
+
+pub range-in : (k : Component) → InRange k → rangeRefusal k ≡ refusal.none
+unfolding rangeRefusal
+range-in k v = asked-next k refusal.none v
+
+-- of a component its common period is asked next
 pub refused-range : (k : Component) → (rangeRefusal k ≡ refusal.none → ⊥) → componentRefusal k ≡ rangeRefusal k
-unfolding rangeRefusal componentRefusal
-refused-range k h = ranges-failed (ltb most-tasks (k .table .count)) (validComponent k) (leb (commonPeriodOf k) limit) h
+unfolding componentRefusal
+refused-range k h = refused-first k _ h
 
 pub refused-period : (k : Component) → InRange k → componentRefusal k ≡ cond (leb (commonPeriodOf k) limit) refusal.none refusal.long
-unfolding componentRefusal validComponent
-refused-period k v = rw (le-ltb _ _ (v .count), v .interface, v .tasks)
+unfolding componentRefusal
+refused-period k v = asked-next k _ v
 
 -- a component that is not refused is in its ranges and its common period within the limit, and conversely
 pub unrefused : (k : Component) → componentRefusal k ≡ refusal.none → InRange k × (commonPeriodOf k ≤ limit)

@@ -1,8 +1,8 @@
 -- A task (T, C, D) and a table of tasks (01, "Numbers and components").
-use Prim.Native.Nat.{ℕ, _-_}
+use Prim.Native.Nat.{ℕ, _+_, _-_}
 use mathlib.Core.Bool.{Bool, true, cond, _&&_}
 use mathlib.Core.List.{List, [], _∷_, _++_}
-use lib.ListN.{length, take, replicate}
+use lib.ListN.{length, take, set, replicate}
 use lib.Dec.{leb, ltb}
 use Rattle.budget.specs.declared.task.Task.{Task}
 use Rattle.budget.specs.declared.task.Table.{Table}
@@ -41,6 +41,10 @@ tasksOf t = take (t .count) (t .tasks)
 -- "and zero in what is returned": the one table that is returned for these tasks
 unfoldable pub tableOf : List Task → Table
 tableOf ks = record { count = length ks; tasks = ks ++ replicate (most-tasks - length ks) noTask }
+
+-- the table with one task more, at the place of its count; a full table stays as it is
+unfoldable pub appended : Table → Task → Table
+appended t k = cond (ltb (t .count) most-tasks) (record { count = t .count + 1; tasks = set (t .tasks) (t .count) k }) t
 
 -- a table is refused with 6 if it has more than 64 tasks, then with 9 if a number of a task is outside its range
 unfoldable pub tableRefusal : Table → ℕ

@@ -6,8 +6,9 @@ use crate::quantity::Units;
 use crate::refusal;
 use crate::task::Table;
 use crate::task::check_table;
+use crate::task::no_tasks;
 ghost use mathlib.Core.Path.{_≡_};
-ghost use Rattle.budget.specs.Component.{interfaceOf, rangeRefusal, componentRefusal};
+ghost use Rattle.budget.specs.Component.{refused, interfaceOf, rangeRefusal, componentRefusal};
 
 // A component's capacity is either stated or asked.
 pub enum Capacity {
@@ -22,6 +23,24 @@ pub struct Component {
     pub capacity: Capacity,
     pub deadline: Time,
     pub table: Table,
+}
+
+// What stands where an edit or a reading is refused: number 0, stated (1, 1, 1), without tasks.
+pub fn refused() -> Component
+    ensures { λ r. ⌜ r ≡ refused ⌝ }
+{
+    let interface = Interface::DEDICATED;
+    let period = interface.period;
+    let capacity = interface.capacity;
+    let deadline = interface.deadline;
+    let table = no_tasks();
+    Component {
+        number: 0,
+        period,
+        capacity: Capacity::Stated(capacity),
+        deadline,
+        table,
+    }
 }
 
 // A component's interface: at the capacity stated, or at 0 where it is asked.

@@ -6,7 +6,8 @@ ghost use mathlib.Core.Bool.{cond};
 ghost use Prim.Native.Nat.{_≤_};
 ghost use Rattle.budget.specs.Limits.{most-tasks};
 ghost use Rattle.budget.specs.Refusal as refusal;
-ghost use Rattle.budget.specs.Task.{taskRefusal, tableRefusal, tasksOf, validTasks};
+ghost use mathlib.Core.List.{[]};
+ghost use Rattle.budget.specs.Task.{taskRefusal, tableRefusal, tasksOf, tableOf, appended, validTasks};
 
 // A sporadic task: period T, work C, deadline D.
 pub struct Task {
@@ -75,4 +76,34 @@ pub fn check_table(table: Table) -> u16
         return refusal::TASKS;
     }
     check_tasks(table)
+}
+
+// The table that has no tasks.
+pub fn no_tasks() -> Table
+    ensures { λ r. ⌜ r ≡ tableOf [] ⌝ }
+{
+    Table {
+        count: 0,
+        tasks: [Task {
+            period: Time(0),
+            work: Units(0),
+            deadline: Time(0),
+        }; 64],
+    }
+}
+
+// The table with one task more, which comes last; a full table stays as it is.
+pub fn append(table: Table, task: Task) -> Table
+    ensures { λ r. ⌜ r ≡ appended table task ⌝ }
+{
+    let count = table.count;
+    if Table::MOST <= count {
+        return table;
+    }
+    let mut tasks = table.tasks;
+    tasks[count] = task;
+    Table {
+        count: count + 1,
+        tasks,
+    }
 }

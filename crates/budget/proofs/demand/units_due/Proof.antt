@@ -11,7 +11,7 @@ use Rattle.budget.specs.declared.task.Task.{Task}
 use Rattle.budget.specs.Demand.{demand, jobsBy}
 use Rattle.budget.specs.Limits.{limit, most-tasks}
 use Rattle.budget.specs.Task.{C, validTasks, tasksOf, noTask}
-use Rattle.budget.proofs.DueBound.{due-bound}
+use Rattle.budget.proofs.DemandLaws.{jobs-work}
 use Rattle.budget.proofs.Places.{length-mapped, from-place, from-end}
 use Rattle.budget.proofs.Valid.{ValidTask, valid-head, valid-tail, task-valid}
 use Rattle.budget.proofs.demand.units_due.Statement.{statement}
@@ -52,7 +52,7 @@ module _ (c : tie.In-loop Inv-loop μ-loop) where
   in-range = valid-head here rest left-valid
 
   asked-bound : asked ≤ 2 * limit
-  asked-bound = omega (arith, due-bound here (start .args .at) in-range, in-range .bounded, start .pre .2)
+  asked-bound = omega (arith, jobs-work here in-range (start .args .at), start .pre .2)
 
   whole : demand (tasksOf (start .args .table)) (start .args .at) ≡ c .before .loop .units + asked + demand rest (start .args .at)
   unfolding demand tasksOf

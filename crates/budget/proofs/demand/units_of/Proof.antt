@@ -1,4 +1,4 @@
--- What one task asks for is computed as defined; that it fits is `whole-jobs`.
+-- What one task asks for is computed as defined; it fits, as the work of its jobs is at most one period more than the instant.
 use Prim.Native.Nat.{_-_}
 use mathlib.Core.Path.{sym}
 use native.Mathlib.Nat.{zero-mul, div-le-self}
@@ -6,7 +6,7 @@ use native.Mathlib.Omega.{arith}
 use borrow.Author.Tests.{lt-leb, le-leb}
 use Rattle.budget.specs.Demand.{jobsBy}
 use Rattle.budget.specs.Task.{T, D}
-use Rattle.budget.proofs.DueBound.{whole-jobs}
+use Rattle.budget.proofs.DemandLaws.{jobs-work}
 use Rattle.budget.proofs.Valid.{ValidTask, valid-task}
 use Rattle.budget.proofs.demand.units_of.Statement.{statement}
 use Rattle.budget.proofs.demand.units_of.Tie as tie
@@ -25,7 +25,10 @@ add-result : tie.Need-add-result
 add-result c = let s = c .before .args in omega (arith, div-le-self (s .at - D (s .task)) (T (s .task)))
 
 mul-result : tie.Need-mul-result
-mul-result c = let s = c .before in omega (arith, in-range s, whole-jobs (s .args .task) (s .args .at) (in-range s))
+unfolding jobsBy
+mul-result c =
+    let s = c .before in
+    omega (arith, rw (le-leb _ _ (c .if1 .left)) at (jobs-work (s .args .task) (in-range s) (s .args .at)))
 
 returns-2 : tie.Need-returns-2
 unfolding jobsBy
