@@ -4,3 +4,4 @@ pub mod SearchLaws
 pub mod StepLaws
 pub mod StepLoops
 pub mod VerdictLaws
+pub mod Whole

@@ -13,3 +13,10 @@ pub enum Judged {
     Refused(u16),
     Answered(Units, Verdict),
 }
+
+// What the search for the smallest capacity answers: a refusal, the capacity found, or none.
+pub enum Smallest {
+    Refused(u16),
+    Found(Units),
+    None,
+}

@@ -1,16 +1,20 @@
 // The smallest capacity that is accepted for a component's period, deadline and tasks.
+use crate::answer::Smallest;
 use crate::steps::columns_of;
 use crate::steps::pass;
+use budget::common_period::common_period;
+use budget::component::Component;
 use budget::interface::Interface;
 use budget::quantity::Time;
 use budget::quantity::Units;
+use budget::refusal;
 use budget::supply::supply;
 use budget::task::Table;
 ghost use mathlib.Core.Path.{_≡_};
 ghost use Rattle.budget.specs.Interface.{interface};
 ghost use Rattle.budget.specs.Supply as Supply;
 ghost use Rattle.budget.specs.Task.{tasksOf};
-ghost use Rattle.judge.specs.Capacity.{Raisable, Raised, smallestCapacity};
+ghost use Rattle.judge.specs.Capacity.{Raisable, Raised, capacityAnswer, smallestCapacity};
 ghost use Rattle.judge.specs.Verdict.{Scannable};
 
 // The units at an instant for this capacity.
@@ -74,4 +78,23 @@ fn least_capacity(table: Table, period: Time, deadline: Time, length: u32) -> u3
         at = step.next;
     }
     capacity
+}
+
+// The smallest capacity from 0 to the deadline that is accepted for the component's period, deadline and tasks, whatever capacity it states.
+pub fn smallest_capacity(component: Component) -> Smallest
+    ensures { λ r. ⌜ r ≡ capacityAnswer component ⌝ }
+{
+    let whole = common_period(component);
+    let refused = whole.refusal;
+    if refused != refusal::NONE {
+        return Smallest::Refused(refused);
+    }
+    let table = component.table;
+    let deadline = component.deadline;
+    let capacity = least_capacity(table, component.period, deadline, whole.length.0);
+    let last = deadline.0;
+    if capacity <= last {
+        return Smallest::Found(Units(capacity));
+    }
+    Smallest::None
 }
