@@ -24,7 +24,7 @@ use Rattle.promises.specs.Demand3.{AcceptedNeverMisses, Balance, Earlies
 use Rattle.promises.specs.Serving.{dueBy, unitOf, workOf}
 use Rattle.promises.specs.Synchronous.{synchronous}
 use Rattle.promises.proofs.DemandBound as DemandBound
-use Rattle.promises.proofs.EarliestDeadline.{earliest-first}
+use Rattle.promises.proofs.EarliestDeadline.{earliest-first, left-at-by}
 use Rattle.promises.proofs.NoMiss.{late-by, no-miss, too-few}
 use Rattle.promises.proofs.Serving.{flow}
 use Rattle.promises.proofs.Synchronous.{synchronous-asks, synchronous-legal}
@@ -38,6 +38,9 @@ balance = window
 
 pub earliest-deadline-first : EarliestDeadlineFirst
 earliest-deadline-first = earliest-first
+
+pub run-by-earliest-deadline : RunByEarliestDeadline
+run-by-earliest-deadline = left-at-by
 
 pub work-within-demand : WorkWithinDemand
 work-within-demand = DemandBound.work-within-demand

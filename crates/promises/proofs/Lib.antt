@@ -1,3 +1,4 @@
+pub mod Capacity
 pub mod Demand3
 pub mod DemandBound
 pub mod EarliestDeadline

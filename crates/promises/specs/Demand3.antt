@@ -12,11 +12,11 @@ use Rattle.budget.specs.Interface.{Π, validInterface}
 use Rattle.budget.specs.Supply.{supply}
 use Rattle.budget.specs.Task.{validTasks}
 use Rattle.run.specs.Job.{Job, legalArrival}
-use Rattle.run.specs.Run.{MissAt}
+use Rattle.run.specs.Run.{MissAt, leftAt}
 use Rattle.trace.specs.Legal.{Legal, zerosAndOnes}
 use Rattle.trace.specs.WorstTrace.{worstOffset, worstTrace}
 use Rattle.judge.specs.Verdict.{Accepted, ShortAt}
-use Rattle.promises.specs.Serving.{Flow, Rule, UrgentFirst, Window, asked, dueBy, earliestDeadline, unitOf, waitingAt, workOf}
+use Rattle.promises.specs.Serving.{Flow, Rule, UrgentFirst, Window, asked, dueBy, earliestDeadline, leftBy, unitOf, waitingAt, workOf}
 use Rattle.promises.specs.Synchronous.{synchronous}
 
 -- a "legal arrival of jobs on any legal supply, begun with no work waiting"
@@ -61,6 +61,11 @@ Balance = (left work unit : ℕ → ℕ) → Flow left work unit → (n : ℕ) �
 -- earliest deadline first is such a rule, with the urgent jobs those due by any one instant
 abbrev pub EarliestDeadlineFirst : Type 0
 EarliestDeadlineFirst = (ks : List Task) (jobs : List Job) (t : ℕ) → UrgentFirst (dueBy ks t) jobs (earliestDeadline ks jobs)
+
+-- and the run is its service
+abbrev pub RunByEarliestDeadline : Type 0
+RunByEarliestDeadline =
+    (ks : List Task) (jobs : List Job) (trace : List ℕ) (n : ℕ) → leftAt ks jobs trace n ≡ leftBy (earliestDeadline ks jobs) jobs trace n
 
 -- the work of the jobs that are released at a or later and due by a + u is at most the demand at u
 abbrev pub WorkWithinDemand : Type 0
