@@ -20,7 +20,7 @@ use Rattle.trace.proofs.Units.{supplied-part}
 use Rattle.trace.proofs.Windows.{window-units}
 use Rattle.trace.specs.WorstTrace.{worstOffset, worstTrace}
 use Rattle.trace.proofs.WorstTrace.{worst-bits, worst-legal, worst-length, worst-prefix, worst-within}
-use Rattle.promises.specs.Demand3.{AcceptedNeverMisses, Balance, EarliestDeadlineFirst, Misses, NoMissWhileFitting, Run, ShortMissesThen, UrgentWork, WorkWithinDemand}
+use Rattle.promises.specs.Demand3.{AcceptedNeverMisses, Balance, EarliestDeadlineFirst, Misses, NoMissWhileFitting, Run, RunByEarliestDeadline, ShortMissesThen, UrgentWork, WorkWithinDemand}
 use Rattle.promises.specs.Serving.{dueBy, unitOf, workOf}
 use Rattle.promises.specs.Synchronous.{synchronous}
 use Rattle.promises.proofs.DemandBound as DemandBound
