@@ -20,5 +20,5 @@ program() {
 # Builds the second program, which also turns a sheet's text into bytes and back.
 second=target/second/release/second
 build_second() {
-    cargo build --release --offline --quiet --manifest-path second/Cargo.toml --target-dir target/second
+    cargo build --release --offline --quiet --manifest-path second/Cargo.toml --target-dir target/second </dev/null
 }
