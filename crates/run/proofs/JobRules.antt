@@ -6,19 +6,19 @@ use native.Mathlib.Omega.{arith}
 use mathlib.Core.Path.{_≡_, refl, sym, ap, ap₂, _∙_}
 use mathlib.Core.Bool.{Bool, true, false, _&&_, _||_}
 use mathlib.Core.List.{List, [], _∷_, map}
-use lib.ListN.{length, getD, drop, drop-of-length-le}
+use lib.ListN.{length, getD, drop, drop-of-length-le, length-map}
 use lib.Dec.{leb, ltb, eqb}
-use lib.Seq.{getD-take}
+use lib.Seq.{getD-take, ext-getD}
 use borrow.Author.Tests.{ltb-true}
 use Rattle.budget.specs.declared.task.Task.{Task}
 use Rattle.budget.specs.declared.task.Table.{Table}
-use Rattle.budget.specs.Task.{T, C, noTask, tasksOf}
+use Rattle.budget.specs.Task.{T, C, D, noTask, tasksOf}
 use Rattle.budget.proofs.Places.{places}
-use Rattle.run.specs.Job.{Job, taskOf, inOrder, apart, validJob, beforeAll, legalArrival}
+use Rattle.run.specs.Job.{Job, taskOf, deadline, inOrder, apart, validJob, beforeAll, legalArrival}
 use Rattle.run.specs.Run.{noJob}
 use Rattle.run.specs.Scan.{follows}
 use Rattle.run.specs.Walk.{jobsOf, releasedBefore}
-use Rattle.run.proofs.Scans.{column, cut}
+use Rattle.run.proofs.Scans.{column, column-length, cut}
 
 pub released-from : (end : ℕ) (rs : List ℕ) (k : ℕ) → k < length rs
     → releasedBefore end (drop k rs) ≡ (ltb (getD rs k 0) end && releasedBefore end (drop (k + 1) rs))
@@ -66,19 +66,39 @@ and-same : (a b b′ : Bool) → (a ≡ true → b ≡ b′) → (a && b) ≡ (a
 and-same true b b′ h = h refl
 and-same false b b′ h = refl
 
-module _ (table : Table) (fits : table .count ≤ length (table .tasks)) (js : List Job) (ts ws : List ℕ) (tasks : map (λ j. j .task) js ≡ ts)
-    (works : map (λ j. j .work) js ≡ ws) (i : ℕ) (h : i < length js) where
+module _ (table : Table) (fits : table .count ≤ length (table .tasks)) (js : List Job) (ts : List ℕ) (tasks : map (λ j. j .task) js ≡ ts)
+    (i : ℕ) (h : i < length js) where
   pub task-at : getD ts i 0 < table .count → taskOf (tasksOf table) (getD js i noJob) ≡ getD (table .tasks) (getD ts i 0) noTask
   unfolding taskOf tasksOf
   task-at there = rw (column (λ j. j .task) js ts tasks i h, getD-take (table .count) (table .tasks) (getD ts i 0) noTask there)
 
-  pub valid-at : validJob (tasksOf table) (getD js i noJob)
+  pub deadline-at : (rs : List ℕ) → map (λ j. j .release) js ≡ rs → getD ts i 0 < table .count
+      → deadline (tasksOf table) (getD js i noJob) ≡ getD rs i 0 + D (getD (table .tasks) (getD ts i 0) noTask)
+  unfolding deadline
+  deadline-at rs releases there = rw (task-at there, column (λ j. j .release) js rs releases i h)
+
+  pub valid-at : (ws : List ℕ) → map (λ j. j .work) js ≡ ws
+      → validJob (tasksOf table) (getD js i noJob)
       ≡ (ltb (getD ts i 0) (table .count) && (leb 1 (getD ws i 0) && leb (getD ws i 0) (C (getD (table .tasks) (getD ts i 0) noTask))))
   unfolding validJob
-  valid-at =
+  valid-at ws works =
       rw (column (λ j. j .task) js ts tasks i h, column (λ j. j .work) js ws works i h, tasks-length table fits)
       (and-same (ltb (getD ts i 0) (table .count)) _ _
       (λ there. ap (λ (k : Task). leb 1 (getD ws i 0) && leb (getD ws i 0) (C k)) (task-at (ltb-true _ _ there))))
+
+-- a list that has each job's deadline is the column of deadlines
+pub due-column : (table : Table) → table .count ≤ length (table .tasks) → (js : List Job) (ts rs due : List ℕ)
+    → map (λ j. j .task) js ≡ ts → map (λ j. j .release) js ≡ rs → length due ≡ length ts
+    → ((k : ℕ) → k < length ts → getD ts k 0 < table .count)
+    → ((k : ℕ) → k < length ts → getD due k 0 ≡ getD rs k 0 + D (getD (table .tasks) (getD ts k 0) noTask))
+    → due ≡ map (deadline (tasksOf table)) js
+due-column table fits js ts rs due tasks releases same there each =
+    let long = column-length _ js _ tasks in
+    ext-getD 0 due (map (deadline (tasksOf table)) js) (omega (arith, length-map js (deadline (tasksOf table))))
+    (λ k h.
+      let hj : k < length js = omega arith in
+      let ht : k < length ts = omega arith in
+      each k ht ∙ sym (deadline-at table fits js ts tasks k hj rs releases (there k ht)) ∙ column _ js _ refl k hj)
 
 -- job lists of one length are the columns of their jobs
 pub record Lists (ts rs ws : List ℕ) : Type 0 where

@@ -1,6 +1,6 @@
 // The rules of the run for a list of jobs, given as the lists of their tasks, releases and works.
 use budget::task::Table;
-ghost use Prim.Native.Nat.{ℕ, suc, _+_, _≤_, _<_};
+ghost use Prim.Native.Nat.{ℕ, suc, _+_, _^_, _≤_, _<_};
 ghost use mathlib.Core.Bool.{not, _&&_, _||_};
 ghost use mathlib.Core.List.{List, map};
 ghost use mathlib.Core.Path.{_≡_};
@@ -8,8 +8,8 @@ ghost use lib.Dec.{leb, eqb};
 ghost use lib.ListN.{length, getD, drop};
 ghost use Rattle.budget.specs.declared.task.Task.{Task};
 ghost use Rattle.budget.specs.Limits.{most-tasks};
-ghost use Rattle.budget.specs.Task.{T, tasksOf};
-ghost use Rattle.run.specs.Job.{Job, taskOf, validJob, beforeAll, legalArrival};
+ghost use Rattle.budget.specs.Task.{T, D, noTask, tasksOf};
+ghost use Rattle.run.specs.Job.{Job, taskOf, deadline, validJob, beforeAll, legalArrival};
 ghost use Rattle.run.specs.Run.{noJob};
 ghost use Rattle.run.specs.Scan.{follows};
 ghost use Rattle.run.specs.Walk.{jobsOf, releasedBefore, validJobs};
@@ -130,4 +130,31 @@ pub fn check_jobs(table: Table, tasks: &[u32], releases: &[u32], works: &[u32], 
         return false;
     }
     legal_jobs(table, tasks, releases, works)
+}
+
+// The deadline of each job.
+pub fn deadlines(table: Table, tasks: &[u32], releases: &[u32], due: &mut [u32])
+    requires { ⌜ (table .count ≤ most-tasks) × (length (now releases) ≡ length (now tasks)) × (length (now due) ≡ length (now tasks)) × ((k : ℕ) → k < length (now tasks) → (getD (now tasks) k 0 < table .count) × (getD (now releases) k 0 + D (getD (table .tasks) (getD (now tasks) k 0) noTask) < 2 ^ 32)) ⌝ }
+    ensures { λ r. ⌜ ((js : List Job) → map (λ j. j .task) js ≡ now (tasks .entry) → map (λ j. j .release) js ≡ now (releases .entry) → now (due .exit) ≡ map (deadline (tasksOf table)) js) ⌝ }
+{
+    let all = table.tasks;
+    let mut i = 0;
+    while i < tasks.len() {
+        let place = tasks[i] as usize;
+        let task = all[place];
+        due[i] = releases[i] + task.deadline.0;
+        i += 1;
+    }
+}
+
+// The whole work of each job.
+pub fn whole_work(works: &[u32], left: &mut [u32])
+    requires { ⌜ length (now left) ≡ length (now works) ⌝ }
+    ensures { λ r. ⌜ now (left .exit) ≡ now (works .entry) ⌝ }
+{
+    let mut i = 0;
+    while i < works.len() {
+        left[i] = works[i];
+        i += 1;
+    }
 }

@@ -36,7 +36,7 @@ valid : (s : tie.Start) (js : List Job) → map (λ j. j .task) js ≡ now (s .a
     validJob (tasksOf (a .table)) (getD js (a .i) noJob) ≡ (ltb k (a .table .count) && (leb 1 w && leb w (C (getD (a .table .tasks) k noTask))))
 valid s js tasks works =
     let a = s .args in
-    valid-at (a .table) (room s) js (now (a .tasks)) (now (a .works)) tasks works (a .i) (omega (arith, column-length _ js _ tasks, s .pre))
+    valid-at (a .table) (room s) js (now (a .tasks)) tasks (a .i) (omega (arith, column-length _ js _ tasks, s .pre)) (now (a .works)) works
 
 mul-work : tie.Need-mul-work
 mul-work c = search needs
@@ -88,7 +88,7 @@ returns-4 c =
     let there = e .before .if1 .left in
     rw (valid s js tasks works, lt-ltb _ _ there, le-leb _ _ (e .if2 .left), le-leb _ _ (c .before .if3 .left))
     (c .spaced .ensures (tasksOf (a .table)) js tasks releases
-    (ap T (task-at (a .table) (room s) js (now (a .tasks)) (now (a .works)) tasks works (a .i) (omega (arith, column-length _ js _ tasks, s .pre)) there)))
+    (ap T (task-at (a .table) (room s) js (now (a .tasks)) tasks (a .i) (omega (arith, column-length _ js _ tasks, s .pre)) there)))
 
 pub legal-job-spec : {M : Type 1} → statement M
 legal-job-spec =
