@@ -1,3 +1,4 @@
+pub mod Accepted
 pub mod Filled
 pub mod JobRules
 pub mod Next

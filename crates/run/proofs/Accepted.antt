@@ -1,0 +1,110 @@
+-- What the walk may rely on where nothing is refused: each rule that its refusal goes down, as facts about the numbers.
+use Prim.Native.Nat.{ℕ, zero, suc, _+_, _^_, _≤_, _<_}
+use native.Mathlib.Nat.{le-of-suc-le-suc, not-suc-le-zero, le-trans, le-of-eq}
+use native.Mathlib.Omega.{arith}
+use mathlib.Core.Path.{_≡_, refl, sym, ap, subst, _∙_}
+use mathlib.Core.Bool.{Bool, true, false, cond, _&&_, true≢false}
+use mathlib.Core.List.{List, [], _∷_, map}
+use lib.ListN.{length, getD}
+use lib.Dec.{leb, ltb, eqb}
+use borrow.Author.Tests.{ltb-true, ltb-false, leb-true, eqb-true, eqb-false, eq-eqb}
+use Rattle.budget.specs.declared.task.Table.{Table}
+use Rattle.budget.specs.declared.task.Task.{Task}
+use Rattle.budget.specs.Limits.{most-tasks, limit}
+use Rattle.budget.specs.Refusal as refusal
+use Rattle.budget.specs.Task.{D, noTask, validTasks, tasksOf, tableRefusal}
+use Rattle.budget.proofs.Valid.{both, valid-at}
+use Rattle.run.specs.Job.{Job, taskOf, validJob, beforeAll, legalArrival}
+use Rattle.run.specs.Run.{noJob}
+use Rattle.run.specs.Walk.{most-jobs, most-slots, jobsOf, releasedBefore, validJobs, validTrace, walkRefusal}
+use Rattle.run.proofs.JobRules.{Lists, lists, task-at, tasks-length}
+use Rattle.run.proofs.Scans.{column, column-length}
+
+-- a row of refusals with none: the first is none, and so are the others
+first-none : (a x : ℕ) (b : Bool) → eqb a 0 ≡ b → cond b x a ≡ 0 → (a ≡ 0) × (x ≡ 0)
+first-none a x true e f = (eqb-true a 0 e, f)
+first-none a x false e f = absurd (eqb-false a 0 e f)
+
+then-none : (b : Bool) (x n : ℕ) → 0 < n → cond b x n ≡ 0 → (b ≡ true) × (x ≡ 0)
+then-none true x n h e = (refl, e)
+then-none false x n h e = absurd (omega arith)
+
+else-none : (b : Bool) (x n : ℕ) → 0 < n → cond b n x ≡ 0 → (b ≡ false) × (x ≡ 0)
+else-none true x n h e = absurd (omega arith)
+else-none false x n h e = (refl, e)
+
+pub record Table-accepted (table : Table) : Type 0 where
+  pub few : table .count ≤ most-tasks
+  pub valid : validTasks (tasksOf table) ≡ true
+
+pub table-accepted : (table : Table) → tableRefusal table ≡ 0 → Table-accepted table
+unfolding tableRefusal
+table-accepted table e =
+    let a = else-none (ltb most-tasks (table .count)) _ refusal.tasks (omega arith) e in
+    record { few = ltb-false _ _ (a .0); valid = then-none _ _ refusal.range (omega arith) (a .1) .0 }
+
+pub record Accepted (table : Table) (ts rs ws s : List ℕ) (room : ℕ) : Type 0 where
+  pub tasks : Table-accepted table
+  pub releases-long : length rs ≡ length ts
+  pub works-long : length ws ≡ length ts
+  pub few : length ts ≤ most-jobs
+  pub released : releasedBefore (length s) rs ≡ true
+  pub legal : legalArrival (tasksOf table) (jobsOf ts rs ws) ≡ true
+  pub short : length s ≤ most-slots
+  pub room-is : room ≡ length ts
+
+pub accepted : (table : Table) (ts rs ws s : List ℕ) (room : ℕ) → walkRefusal table ts rs ws s room ≡ 0 → Accepted table ts rs ws s room
+unfolding walkRefusal validJobs validTrace
+accepted table ts rs ws s room e =
+    let a = first-none (tableRefusal table) _ _ refl e in
+    let b = then-none (validJobs (tasksOf table) ts rs ws (length s)) _ refusal.jobs (omega arith) (a .1) in
+    let d = then-none (validTrace s) _ refusal.bad-trace (omega arith) (b .1) in
+    let f = then-none (eqb room (length ts)) _ refusal.room (omega arith) (d .1) in
+    let v = both (eqb (length rs) (length ts)) _ (b .0) in
+    let w = both (eqb (length ws) (length ts)) _ (v .1) in
+    let x = both (leb (length ts) most-jobs) _ (w .1) in
+    let y = both (releasedBefore (length s) rs) _ (x .1) in
+    record {
+      tasks = table-accepted table (a .0);
+      releases-long = eqb-true _ _ (v .0);
+      works-long = eqb-true _ _ (w .0);
+      few = leb-true _ _ (x .0);
+      released = y .0;
+      legal = y .1;
+      short = leb-true _ _ (both (leb (length s) most-slots) _ (d .0) .0);
+      room-is = eqb-true _ _ (f .0);
+    }
+
+-- the rules at one place
+released-at : (end : ℕ) (rs : List ℕ) → releasedBefore end rs ≡ true → (k : ℕ) → k < length rs → getD rs k 0 < end
+unfolding releasedBefore
+released-at end [] e k h = absurd (not-suc-le-zero h)
+released-at end (r ∷ rs) e zero h = ltb-true _ _ (both _ _ e .0)
+released-at end (r ∷ rs) e (suc k) h = released-at end rs (both (ltb r end) _ e .1) k (le-of-suc-le-suc h)
+
+legal-at : (ks : List Task) (js : List Job) → legalArrival ks js ≡ true → (k : ℕ) → k < length js → validJob ks (getD js k noJob) ≡ true
+unfolding legalArrival
+legal-at ks [] e k h = absurd (not-suc-le-zero h)
+legal-at ks (j ∷ js) e zero h = both _ _ e .0
+legal-at ks (j ∷ js) e (suc k) h = legal-at ks js (both (beforeAll ks j js) _ (both (validJob ks j) _ e .1) .1) k (le-of-suc-le-suc h)
+
+task-there : (ks : List Task) (j : Job) → validJob ks j ≡ true → j .task < length ks
+unfolding validJob
+task-there ks j e = ltb-true _ _ (both _ _ e .0)
+
+-- a job's task is there, and its deadline fits a u32
+pub job-fine : (table : Table) (ts rs ws s : List ℕ) (room : ℕ) → table .count ≤ length (table .tasks) → Accepted table ts rs ws s room → (k : ℕ) → k < length ts
+    → (getD ts k 0 < table .count) × (getD rs k 0 + D (getD (table .tasks) (getD ts k 0) noTask) < 2 ^ 32)
+unfolding taskOf
+job-fine table ts rs ws s room fits a k h =
+    let js = jobsOf ts rs ws in
+    let l = lists ts rs ws (a .releases-long) (a .works-long) in
+    let hj : k < length js = omega (arith, column-length _ js _ (l .tasks)) in
+    let there : getD js k noJob .task < length (tasksOf table) = task-there _ _ (legal-at (tasksOf table) js (a .legal) k hj) in
+    let at : getD js k noJob .task ≡ getD ts k 0 = column (λ j. j .task) js ts (l .tasks) k hj in
+    let long = tasks-length table fits in
+    let inside : getD ts k 0 < table .count = omega arith in
+    let valid = valid-at (tasksOf table) (a .tasks .valid) (getD js k noJob .task) there in
+    let same = ap D (task-at table fits js ts (l .tasks) k hj inside) in
+    let release = released-at (length s) rs (a .released) k (omega (arith, a .releases-long)) in
+    (inside, omega (arith, valid .within, valid .bounded, a .short))
