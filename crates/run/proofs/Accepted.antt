@@ -15,8 +15,8 @@ use Rattle.budget.specs.Refusal as refusal
 use Rattle.budget.specs.Task.{D, noTask, validTasks, tasksOf, tableRefusal}
 use Rattle.budget.proofs.Valid.{both, valid-at}
 use Rattle.run.specs.Job.{Job, taskOf, validJob, beforeAll, legalArrival}
-use Rattle.run.specs.Run.{noJob}
-use Rattle.run.specs.Walk.{most-jobs, most-slots, jobsOf, releasedBefore, validJobs, validTrace, walkRefusal}
+use Rattle.run.specs.Run.{noJob, leftAt}
+use Rattle.run.specs.Walk.{most-jobs, most-slots, jobsOf, releasedBefore, validJobs, validTrace, walkRefusal, stop, walkedTo, walkAnswer, leftAfter}
 use Rattle.run.proofs.JobRules.{Lists, lists, task-at, tasks-length}
 use Rattle.run.proofs.Scans.{column, column-length}
 
@@ -108,3 +108,14 @@ job-fine table ts rs ws s room fits a k h =
     let same = ap D (task-at table fits js ts (l .tasks) k hj inside) in
     let release = released-at (length s) rs (a .released) k (omega (arith, a .releases-long)) in
     (inside, omega (arith, valid .within, valid .bounded, a .short))
+
+-- the answer and the buffer where nothing is refused
+pub answer-accepted : (table : Table) (ts rs ws s : List ℕ) (room : ℕ) → walkRefusal table ts rs ws s room ≡ 0
+    → walkAnswer table ts rs ws s room ≡ walkedTo (tasksOf table) (jobsOf ts rs ws) s (stop (tasksOf table) (jobsOf ts rs ws) s)
+unfolding walkAnswer
+answer-accepted table ts rs ws s room e = rw (eq-eqb _ _ e)
+
+pub left-accepted : (table : Table) (ts rs ws s left : List ℕ) → walkRefusal table ts rs ws s (length left) ≡ 0
+    → leftAfter table ts rs ws s left ≡ leftAt (tasksOf table) (jobsOf ts rs ws) s (stop (tasksOf table) (jobsOf ts rs ws) s)
+unfolding leftAfter
+left-accepted table ts rs ws s left e = rw (eq-eqb _ _ e)

@@ -96,9 +96,9 @@ due-column table fits js ts rs due tasks releases same there each =
     let long = column-length _ js _ tasks in
     ext-getD 0 due (map (deadline (tasksOf table)) js) (omega (arith, length-map js (deadline (tasksOf table))))
     (λ k h.
-      let hj : k < length js = omega arith in
-      let ht : k < length ts = omega arith in
-      each k ht ∙ sym (deadline-at table fits js ts tasks k hj rs releases (there k ht)) ∙ column _ js _ refl k hj)
+    let hj : k < length js = omega arith in
+    let ht : k < length ts = omega arith in
+    each k ht ∙ sym (deadline-at table fits js ts tasks k hj rs releases (there k ht)) ∙ column _ js _ refl k hj)
 
 -- job lists of one length are the columns of their jobs
 pub record Lists (ts rs ws : List ℕ) : Type 0 where

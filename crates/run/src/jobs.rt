@@ -15,7 +15,7 @@ ghost use Rattle.run.specs.Scan.{follows};
 ghost use Rattle.run.specs.Walk.{jobsOf, releasedBefore, validJobs};
 
 // The most jobs that a walk takes.
-const MOST: usize = 1_024;
+pub const MOST: usize = 1_024;
 
 // Whether releases of one task are at least its period apart. The sum may pass a u32, so it is taken in a u64.
 fn apart(period: u32, task: u32, release: u32, later_task: u32, later_release: u32) -> bool

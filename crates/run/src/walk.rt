@@ -1,10 +1,13 @@
 // The walk: a run of jobs on a trace, slot by slot, to the first miss or the trace's end.
-use crate::scan::Given;
+use crate::jobs::MOST;
+use crate::jobs::deadlines;
+use crate::jobs::whole_work;
 use crate::scan::late_task;
 use crate::scan::serve_slot;
 use budget::quantity::Time;
 use budget::quantity::Units;
 use budget::refusal;
+use budget::task::Table;
 ghost use Prim.Native.Nat.{ℕ, _≤_};
 ghost use mathlib.Core.List.{List, map};
 ghost use mathlib.Core.Path.{_≡_};
@@ -12,7 +15,7 @@ ghost use lib.ListN.{length};
 ghost use Rattle.budget.specs.declared.task.Task.{Task};
 ghost use Rattle.run.specs.Job.{Job, deadline};
 ghost use Rattle.run.specs.Run.{leftAt};
-ghost use Rattle.run.specs.Walk.{missOf, stop, walkedTo};
+ghost use Rattle.run.specs.Walk.{missOf, stop, walkedTo, walkRefusal, walkAnswer, leftAfter};
 
 // The first miss: its instant and its task's number, or none.
 pub enum Miss {
@@ -71,4 +74,49 @@ fn walk_slots(
         served: Units(served),
         idle: Units(idle),
     }
+}
+
+// The walk of what is accepted, with room for the jobs' deadlines: each deadline once, the whole work as the work left, then slot by slot.
+fn walk_jobs(
+    table: Table,
+    tasks: &[u32],
+    releases: &[u32],
+    works: &[u32],
+    trace: &[u8],
+    due: &mut [u32],
+    left: &mut [u32],
+) -> Walked
+    requires { ⌜ (walkRefusal table (now tasks) (now releases) (now works) (now trace) (length (now left)) ≡ 0) × (length (now due) ≡ length (now tasks)) ⌝ }
+    ensures { λ r. ⌜ r ≡ walkAnswer table (now (tasks .entry)) (now (releases .entry)) (now (works .entry)) (now (trace .entry)) (length (now (left .entry))) ⌝ }
+    ensures leaves { λ r. ⌜ now (left .exit) ≡ leftAfter table (now (tasks .entry)) (now (releases .entry)) (now (works .entry)) (now (trace .entry)) (now (left .entry)) ⌝ }
+{
+    deadlines(table, tasks, releases, due);
+    whole_work(works, left);
+    walk_slots(due, tasks, releases, trace, left)
+}
+
+// The walk of what is accepted.
+fn walk_accepted(
+    table: Table,
+    tasks: &[u32],
+    releases: &[u32],
+    works: &[u32],
+    trace: &[u8],
+    left: &mut [u32],
+) -> Walked
+    requires { ⌜ walkRefusal table (now tasks) (now releases) (now works) (now trace) (length (now left)) ≡ 0 ⌝ }
+    ensures { λ r. ⌜ r ≡ walkAnswer table (now (tasks .entry)) (now (releases .entry)) (now (works .entry)) (now (trace .entry)) (length (now (left .entry))) ⌝ }
+    ensures leaves { λ r. ⌜ now (left .exit) ≡ leftAfter table (now (tasks .entry)) (now (releases .entry)) (now (works .entry)) (now (trace .entry)) (now (left .entry)) ⌝ }
+{
+    let mut due = [0u32; MOST];
+    let count = tasks.len();
+    walk_jobs(
+        table,
+        tasks,
+        releases,
+        works,
+        trace,
+        &mut due[..count],
+        left,
+    )
 }

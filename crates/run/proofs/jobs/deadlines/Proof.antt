@@ -77,14 +77,13 @@ loop-less : tie.Need-loop-less Inv-loop μ-loop
 loop-less c = search needs
 
 loop-again : tie.Need-loop-again Inv-loop μ-loop
-loop-again c = 
+loop-again c =
     let h = c .before .before .before .before .before in
-    let a = h .before .before .args in
-    (
+    let a = h .before .before .args in (
       search needs,
       search needs,
       filled (λ k. getD (now (a .releases)) k 0 + D (getD (a .table .tasks) (getD (now (a .tasks)) k 0) noTask)) (h .loop .due) (h .loop .i) (omega arith)
-        (h .loop .inv .2),
+          (h .loop .inv .2),
     )
 
 same-length : tie.Need-same-length Inv-loop μ-loop
@@ -96,8 +95,8 @@ returns c =
     let s = h .before .before in
     let a = s .args in
     λ js tasks releases.
-      due-column (a .table) (room s) js (now (a .tasks)) (now (a .releases)) (h .loop .due) tasks releases (omega (arith, s .pre))
-          (λ k l. s .pre .3 k l .0) (λ k l. h .loop .inv .2 k (omega arith))
+    due-column (a .table) (room s) js (now (a .tasks)) (now (a .releases)) (h .loop .due) tasks releases (omega (arith, s .pre))
+    (λ k l. s .pre .3 k l .0) (λ k l. h .loop .inv .2 k (omega arith))
 
 pub deadlines-spec : {M : Type 1} → statement M
 deadlines-spec =

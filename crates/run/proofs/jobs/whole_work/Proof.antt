@@ -42,7 +42,7 @@ loop-less : tie.Need-loop-less Inv-loop μ-loop
 loop-less c = search needs
 
 loop-again : tie.Need-loop-again Inv-loop μ-loop
-loop-again c = 
+loop-again c =
     let h = c .before .before in
     let works = now (h .before .args .works) in
     (search needs, search needs, filled (λ k. getD works k 0) (h .loop .left) (h .loop .i) (omega arith) (h .loop .inv .2))

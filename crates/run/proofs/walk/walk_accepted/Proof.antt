@@ -1,0 +1,44 @@
+use Prim.Native.Nat.{ℕ, _≤_}
+use mathlib.Core.Path.{_≡_, sym}
+use lib.ListN.{length}
+use lib.Seq.{length-take-le}
+use denote.Ref.{now}
+use Rattle.run.specs.Walk.{most-jobs}
+use Rattle.run.proofs.Accepted.{accepted}
+use borrow.Author.Needs.{needs}
+use Rattle.run.proofs.walk.walk_accepted.Statement.{statement}
+use Rattle.run.proofs.walk.walk_accepted.Tie as tie
+use Rattle.run.proofs.walk.walk_accepted.Reads as reads
+use Rattle.run.proofs.walk.walk_accepted.Lts as lts
+use Rattle.run.proofs.walk.walk_jobs.Reads as walk-jobs-reads
+
+-- no more jobs than there is room for deadlines
+few : (s : tie.Start) → length (now (s .args .tasks)) ≤ most-jobs
+few s = accepted _ _ _ _ _ _ (s .pre) .few
+
+array-borrow-prefix-due : tie.Need-array-borrow-prefix-due
+array-borrow-prefix-due c = few (c .before .before .before .before .before)
+
+slice-aggregate-walk-jobs : tie.Need-slice-aggregate-walk-jobs
+slice-aggregate-walk-jobs c = sym (length-take-le _ _ (few (c .before .before .before .before .before .before)))
+
+walk-jobs-requires : tie.Need-walk-jobs-requires
+walk-jobs-requires c κs =
+    let s = c .before .before .before .before .before .before .before in
+    (s .pre, length-take-le _ _ (few s))
+
+same-length : tie.Need-same-length
+same-length c = search needs
+
+returns : tie.Need-returns
+returns c = search needs
+
+pub walk-accepted-spec : {M : Type 1} → statement M
+walk-accepted-spec =
+    tie.close
+    (tie.spec
+    array-borrow-prefix-due
+    slice-aggregate-walk-jobs
+    walk-jobs-requires
+    same-length
+    returns)

@@ -1,0 +1,87 @@
+use Prim.Native.Nat.{ℕ, _≤_}
+use mathlib.Core.Path.{_≡_, sym, _∙_}
+use lib.ListN.{length}
+use denote.Ref.{now}
+use native.Mathlib.Nat.{le-trans, le-of-eq}
+use Rattle.budget.specs.Limits.{most-tasks}
+use Rattle.budget.specs.Task.{tasksOf}
+use Rattle.budget.proofs.Places.{length-mapped}
+use Rattle.run.specs.Walk.{jobsOf}
+use Rattle.run.proofs.Accepted.{Accepted, accepted, job-fine, answer-accepted, left-accepted}
+use Rattle.run.proofs.JobRules.{lists}
+use borrow.Author.Needs.{needs}
+use Rattle.run.proofs.walk.walk_jobs.Statement.{statement}
+use Rattle.run.proofs.walk.walk_jobs.Tie as tie
+use Rattle.run.proofs.walk.walk_jobs.Reads as reads
+use Rattle.run.proofs.walk.walk_jobs.Lts as lts
+use Rattle.run.proofs.jobs.deadlines.Reads as deadlines-reads
+use Rattle.run.proofs.jobs.whole_work.Reads as whole-work-reads
+use Rattle.run.proofs.walk.walk_slots.Reads as walk-slots-reads
+
+-- what is accepted keeps the rules, and every place of the table's count stands in the table
+rules : (s : tie.Start) → let a = s .args in Accepted (a .table) (now (a .tasks)) (now (a .releases)) (now (a .works)) (now (a .trace)) (length (now (a .left)))
+rules s = accepted _ _ _ _ _ _ (s .pre .0)
+
+room : (s : tie.Start) → s .args .table .count ≤ length (s .args .table .tasks)
+room s =
+    let full : length (s .args .table .tasks) ≡ most-tasks = search (needs, length-mapped) in
+    le-trans (rules s .tasks .few) (le-of-eq (sym full))
+
+deadlines-requires : tie.Need-deadlines-requires
+deadlines-requires c κs =
+    let s = c .before .before .before .before .before .before .before in
+    let a = s .args in (
+      rules s .tasks .few,
+      rules s .releases-long,
+      s .pre .1,
+      job-fine (a .table) (now (a .tasks)) (now (a .releases)) (now (a .works)) (now (a .trace)) _ (room s) (rules s),
+    )
+
+whole-work-requires : tie.Need-whole-work-requires
+whole-work-requires c κs =
+    let s = c .before .before .before .before .before .before .before .before .before .before .before in
+    rules s .room-is ∙ sym (rules s .works-long)
+
+walk-slots-requires : tie.Need-walk-slots-requires
+walk-slots-requires c κs =
+    let w = c .before .before .before .before in
+    let d = w .before .before .before .before in
+    let s = d .before .before .before .before .before .before .before .before in
+    let long : length (w .whole-work .last .1 .0) ≡ length (now (s .args .tasks)) = w .whole-work .kept .1 .0 ∙ rules s .room-is in (
+      d .deadlines .kept .1 .1 .1 .0 ∙ s .pre .1 ∙ sym long,
+      sym long,
+      rules s .releases-long ∙ sym long,
+      rules s .short,
+    )
+
+same-length : tie.Need-same-length
+same-length c = search needs
+
+same-length-2 : tie.Need-same-length-2
+same-length-2 c = search needs
+
+returns : tie.Need-returns
+returns c =
+    let v = c .before .before in
+    let w = v .before .before .before .before .before in
+    let d = w .before .before .before .before in
+    let s = d .before .before .before .before .before .before .before .before in
+    let a = s .args in
+    let js = jobsOf (now (a .tasks)) (now (a .releases)) (now (a .works)) in
+    let l = lists (now (a .tasks)) (now (a .releases)) (now (a .works)) (rules s .releases-long) (rules s .works-long) in
+    let done = v .walk-slots .ensures (tasksOf (a .table)) js (sym (d .deadlines .ensures js (l .tasks) (l .releases))) (l .tasks) (l .releases)
+    (l .works ∙ sym (w .whole-work .ensures)) in (
+      done .0 ∙ sym (answer-accepted (a .table) (now (a .tasks)) (now (a .releases)) (now (a .works)) (now (a .trace)) (length (now (a .left))) (s .pre .0)),
+      done .1 ∙ sym (left-accepted (a .table) (now (a .tasks)) (now (a .releases)) (now (a .works)) (now (a .trace)) (now (a .left)) (s .pre .0)),
+    )
+
+pub walk-jobs-spec : {M : Type 1} → statement M
+walk-jobs-spec =
+    tie.close
+    (tie.spec
+    deadlines-requires
+    whole-work-requires
+    walk-slots-requires
+    same-length
+    same-length-2
+    returns)
