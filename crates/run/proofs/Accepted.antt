@@ -14,6 +14,7 @@ use Rattle.budget.specs.Limits.{most-tasks, limit}
 use Rattle.budget.specs.Refusal as refusal
 use Rattle.budget.specs.Task.{D, noTask, validTasks, tasksOf, tableRefusal}
 use Rattle.budget.proofs.Valid.{both, valid-at}
+use Rattle.trace.specs.Legal.{zerosAndOnes}
 use Rattle.run.specs.Job.{Job, taskOf, validJob, beforeAll, legalArrival}
 use Rattle.run.specs.Run.{noJob, leftAt}
 use Rattle.run.specs.Walk.{most-jobs, most-slots, jobsOf, releasedBefore, validJobs, validTrace, walkRefusal, stop, walkedTo, walkAnswer, leftAfter}
@@ -51,6 +52,7 @@ pub record Accepted (table : Table) (ts rs ws s : List ℕ) (room : ℕ) : Type 
   pub released : releasedBefore (length s) rs ≡ true
   pub legal : legalArrival (tasksOf table) (jobsOf ts rs ws) ≡ true
   pub short : length s ≤ most-slots
+  pub bits : zerosAndOnes s ≡ true
   pub room-is : room ≡ length ts
 
 pub accepted : (table : Table) (ts rs ws s : List ℕ) (room : ℕ) → walkRefusal table ts rs ws s room ≡ 0 → Accepted table ts rs ws s room
@@ -72,6 +74,7 @@ accepted table ts rs ws s room e =
       released = y .0;
       legal = y .1;
       short = leb-true _ _ (both (leb (length s) most-slots) _ (d .0) .0);
+      bits = both (leb (length s) most-slots) _ (d .0) .1;
       room-is = eqb-true _ _ (f .0);
     }
 

@@ -1,7 +1,9 @@
 pub mod Accepted
+pub mod Conservation
 pub mod Filled
 pub mod JobRules
 pub mod Next
+pub mod RunLaws
 pub mod Scans
 pub mod Slots
 pub mod Walking

@@ -1,3 +1,4 @@
+pub mod Conservation
 pub mod Job
 pub mod Run
 pub mod Scan
