@@ -5,7 +5,7 @@ use native.Mathlib.Omega.{arith}
 use mathlib.Core.Path.{_≡_, refl, sym, ap, subst, _∙_}
 use mathlib.Core.Bool.{Bool, true, false, cond, _&&_, true≢false}
 use mathlib.Core.List.{List, [], _∷_, map}
-use lib.ListN.{length, getD}
+use lib.ListN.{length, getD, length-take}
 use lib.Dec.{leb, ltb, eqb}
 use borrow.Author.Tests.{ltb-true, ltb-false, leb-true, eqb-true, eqb-false, eq-eqb}
 use Rattle.budget.specs.declared.task.Table.{Table}
@@ -94,6 +94,18 @@ legal-at ks (j ∷ js) e (suc k) h = legal-at ks js (both (beforeAll ks j js) _ 
 task-there : (ks : List Task) (j : Job) → validJob ks j ≡ true → j .task < length ks
 unfolding validJob
 task-there ks j e = ltb-true _ _ (both _ _ e .0)
+
+-- a job's task has a number below 64
+pub task-few : (table : Table) (ts rs ws s : List ℕ) (room : ℕ) → Accepted table ts rs ws s room
+    → (q : ℕ) → q < length (jobsOf ts rs ws) → getD (jobsOf ts rs ws) q noJob .task < most-tasks
+unfolding tasksOf
+task-few table ts rs ws s room a q h =
+    omega (
+      arith,
+      task-there (tasksOf table) (getD (jobsOf ts rs ws) q noJob) (legal-at (tasksOf table) (jobsOf ts rs ws) (a .legal) q h),
+      length-take (table .count) (table .tasks),
+      a .tasks .few,
+    )
 
 -- a job's task is there, and its deadline fits a u32
 pub job-fine : (table : Table) (ts rs ws s : List ℕ) (room : ℕ) → table .count ≤ length (table .tasks) → Accepted table ts rs ws s room → (k : ℕ) → k < length ts

@@ -1,6 +1,7 @@
 pub mod Accepted
 pub mod Conservation
 pub mod Filled
+pub mod FirstMiss
 pub mod JobRules
 pub mod Next
 pub mod RunLaws

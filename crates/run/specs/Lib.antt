@@ -1,4 +1,5 @@
 pub mod Conservation
+pub mod FirstMiss
 pub mod Job
 pub mod Run
 pub mod Scan
