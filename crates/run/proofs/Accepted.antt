@@ -14,10 +14,11 @@ use Rattle.budget.specs.Limits.{most-tasks, limit}
 use Rattle.budget.specs.Refusal as refusal
 use Rattle.budget.specs.Task.{D, noTask, validTasks, tasksOf, tableRefusal}
 use Rattle.budget.proofs.Valid.{both, valid-at}
+use Rattle.trace.specs.Answer.{longest}
 use Rattle.trace.specs.Legal.{zerosAndOnes}
 use Rattle.run.specs.Job.{Job, taskOf, validJob, beforeAll, legalArrival}
 use Rattle.run.specs.Run.{noJob, leftAt}
-use Rattle.run.specs.Walk.{most-jobs, most-slots, jobsOf, releasedBefore, validJobs, validTrace, walkRefusal, stop, walkedTo, walkAnswer, leftAfter}
+use Rattle.run.specs.Walk.{most-jobs, jobsOf, releasedBefore, validJobs, validTrace, walkRefusal, stop, walkedTo, walkAnswer, leftAfter}
 use Rattle.run.proofs.JobRules.{Lists, lists, task-at, tasks-length}
 use Rattle.run.proofs.Scans.{column, column-length}
 
@@ -51,7 +52,7 @@ pub record Accepted (table : Table) (ts rs ws s : List ℕ) (room : ℕ) : Type 
   pub few : length ts ≤ most-jobs
   pub released : releasedBefore (length s) rs ≡ true
   pub legal : legalArrival (tasksOf table) (jobsOf ts rs ws) ≡ true
-  pub short : length s ≤ most-slots
+  pub short : length s ≤ longest
   pub bits : zerosAndOnes s ≡ true
   pub room-is : room ≡ length ts
 
@@ -73,8 +74,8 @@ accepted table ts rs ws s room e =
       few = leb-true _ _ (x .0);
       released = y .0;
       legal = y .1;
-      short = leb-true _ _ (both (leb (length s) most-slots) _ (d .0) .0);
-      bits = both (leb (length s) most-slots) _ (d .0) .1;
+      short = leb-true _ _ (both (leb (length s) longest) _ (d .0) .0);
+      bits = both (leb (length s) longest) _ (d .0) .1;
       room-is = eqb-true _ _ (f .0);
     }
 

@@ -14,15 +14,12 @@ use Rattle.run.specs.declared.walk.Miss.the-variants.{None, At}
 use Rattle.run.specs.declared.walk.Walked.{Walked}
 use Rattle.run.specs.Job.{Job, deadline, legalArrival}
 use Rattle.run.specs.Run.{next, leftAt}
+use Rattle.trace.specs.Answer.{longest}
 use Rattle.trace.specs.Legal.{zerosAndOnes}
 
 -- "at most 1,024 jobs"
 abbrev pub most-jobs : ℕ
 most-jobs = 1_024
-
--- "at most 65,536 trace bytes"
-abbrev pub most-slots : ℕ
-most-slots = 65_536
 
 -- the jobs, given as the lists of their tasks, releases and works
 unfoldable pub jobsOf : List ℕ → List ℕ → List ℕ → List Job
@@ -43,9 +40,9 @@ validJobs ks ts rs ws end =
     && (eqb (length ws) (length ts)
     && (leb (length ts) most-jobs && (releasedBefore end rs && legalArrival ks (jobsOf ts rs ws))))
 
--- a trace that is taken: not too long, and each byte 0 or 1
+-- a trace that is taken: "at most 65,536 trace bytes", and each byte 0 or 1
 unfoldable pub validTrace : List ℕ → Bool
-validTrace s = leb (length s) most-slots && zerosAndOnes s
+validTrace s = leb (length s) longest && zerosAndOnes s
 
 -- "Walk: 6, 9, 12, 13, 11; unequal job lists and too many jobs are 12"; room is the length of the work-left buffer
 unfoldable pub walkRefusal : Table → List ℕ → List ℕ → List ℕ → List ℕ → ℕ → ℕ

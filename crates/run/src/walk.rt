@@ -1,5 +1,6 @@
 // The walk: a run of jobs on a trace, slot by slot, to the first miss or the trace's end.
 use crate::jobs::MOST;
+use crate::jobs::check_jobs;
 use crate::jobs::deadlines;
 use crate::jobs::whole_work;
 use crate::scan::late_task;
@@ -8,6 +9,9 @@ use budget::quantity::Time;
 use budget::quantity::Units;
 use budget::refusal;
 use budget::task::Table;
+use budget::task::check_table;
+use trace::legal::LONGEST;
+use trace::legal::zeros_and_ones;
 ghost use Prim.Native.Nat.{ℕ, _≤_};
 ghost use mathlib.Core.List.{List, map};
 ghost use mathlib.Core.Path.{_≡_};
@@ -119,4 +123,58 @@ fn walk_accepted(
         &mut due[..count],
         left,
     )
+}
+
+// The refusal of a walk: the table's, then that of the jobs, of the trace, and of the room for the work left.
+fn check_walk(
+    table: Table,
+    tasks: &[u32],
+    releases: &[u32],
+    works: &[u32],
+    trace: &[u8],
+    room: usize,
+) -> u16
+    ensures { λ r. ⌜ r ≡ walkRefusal table (now (tasks .entry)) (now (releases .entry)) (now (works .entry)) (now (trace .entry)) room ⌝ }
+{
+    let refused = check_table(table);
+    if refused != refusal::NONE {
+        return refused;
+    }
+    if !check_jobs(table, tasks, releases, works, trace.len()) {
+        return refusal::JOBS;
+    }
+    if LONGEST < trace.len() {
+        return refusal::TRACE;
+    }
+    if !zeros_and_ones(trace) {
+        return refusal::TRACE;
+    }
+    if room != tasks.len() {
+        return refusal::ROOM;
+    }
+    refusal::NONE
+}
+
+// The walk of a task table, jobs and a trace: the first miss, the units served and idle up to the stop, and each job's work left there.
+pub fn walk(
+    table: Table,
+    tasks: &[u32],
+    releases: &[u32],
+    works: &[u32],
+    trace: &[u8],
+    left: &mut [u32],
+) -> Walked
+    ensures { λ r. ⌜ r ≡ walkAnswer table (now (tasks .entry)) (now (releases .entry)) (now (works .entry)) (now (trace .entry)) (length (now (left .entry))) ⌝ }
+    ensures leaves { λ r. ⌜ now (left .exit) ≡ leftAfter table (now (tasks .entry)) (now (releases .entry)) (now (works .entry)) (now (trace .entry)) (now (left .entry)) ⌝ }
+{
+    let refused = check_walk(table, tasks, releases, works, trace, left.len());
+    if refused != refusal::NONE {
+        return Walked {
+            refusal: refused,
+            miss: Miss::None,
+            served: Units(0),
+            idle: Units(0),
+        };
+    }
+    walk_accepted(table, tasks, releases, works, trace, left)
 }

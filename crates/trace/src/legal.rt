@@ -22,7 +22,7 @@ pub struct Legality {
 }
 
 // Every byte is 0 or 1.
-fn zeros_and_ones(trace: &[u8]) -> bool
+pub fn zeros_and_ones(trace: &[u8]) -> bool
     ensures { λ r. ⌜ r ≡ zerosAndOnes (now (trace .entry)) ⌝ }
 {
     let mut i = 0;
