@@ -64,7 +64,9 @@ abbrev μ-loop : tie.MeasureT-loop
 μ-loop offset trace period deadline slack place₀ missing₀ i₀ place missing i = length trace - i
 
 sub-slack : tie.Need-sub-slack Inv-loop μ-loop
-sub-slack c = taken _ _ _ (c .before .before .pre) .valid .fits
+sub-slack c =
+    let v = taken _ _ _ (c .before .before .pre) .valid in
+    omega (arith, v .fits, v .within)
 
 loop-holds : tie.Need-loop-holds Inv-loop μ-loop
 loop-holds c = (zero-le, taken _ _ _ (c .before .before .pre) .below, zero-le, refl)
