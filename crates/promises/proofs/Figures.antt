@@ -11,21 +11,22 @@ use Rattle.judge.specs.Search.{smallest}
 use Rattle.judge.specs.Verdict.{verdictOn, accepts, firstShort, isShort}
 use Rattle.run.specs.Job.{deadline, taskOf}
 use Rattle.run.specs.Run.{waits, goesBefore, headFirst, next, serve, slot, leftAt, MissAt}
-use Rattle.trace.specs.Legal.{Legal, counted, countedFrom}
+use Rattle.trace.specs.Legal.{Legal, counted}
+use Rattle.trace.specs.Units.{units}
 use Rattle.promises.specs.Figures.{Hold, figures, eleven, jobs, trace}
 
 legal : Legal (interface 6 2 4) 2 trace
-unfolding counted countedFrom
+unfolding counted units
 legal zero t = lit≤ tt
 legal (suc zero) t = lit≤ tt
 legal (suc (suc k)) t = absurd (omega (arith, t .inside, t .from))
 
 not-at-start : ¬ Legal (interface 6 2 4) 0 trace
-unfolding counted countedFrom
+unfolding counted units
 not-at-start l = omega (arith, l 0 (record { slot = 0; inside = lit< tt; from = lit≤ tt; until = lit< tt }))
 
 not-at-three : ¬ Legal (interface 6 2 4) 3 trace
-unfolding counted countedFrom
+unfolding counted units
 not-at-three l = omega (arith, l 1 (record { slot = 3; inside = lit< tt; from = lit≤ tt; until = lit< tt }))
 
 miss : MissAt eleven jobs trace 7

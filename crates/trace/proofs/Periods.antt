@@ -14,8 +14,9 @@ use native.Mathlib.Omega.{arith}
 use Rattle.budget.specs.declared.interface.Interface.{Interface}
 use Rattle.budget.specs.Interface.{Π, Θ, Δ}
 use Rattle.budget.proofs.Valid.{ValidInterface, both}
-use Rattle.trace.specs.Legal.{zerosAndOnes, counted, countedFrom, Legal}
-use Rattle.trace.proofs.Units.{units-same, units-ones, counted-units}
+use Rattle.trace.specs.Legal.{zerosAndOnes, counted, Legal}
+use Rattle.trace.specs.Units.{units}
+use Rattle.trace.proofs.Units.{units-same, units-ones}
 
 -- what a place counts: before the trace, in it and after it
 pub counted-before : (o : ℕ) (s : List ℕ) (x : ℕ) → x < o → counted o s x ≡ 1
@@ -48,17 +49,12 @@ counted-bit o s e x = go (ltb x o)
 
 module _ (i : Interface) (v : ValidInterface i) (o : ℕ) (s : List ℕ) where
   -- a period whose places below Δ all count owes nothing more
-  all-count : (k : ℕ) → ((m : ℕ) → m < Δ i → counted o s (k * Π i + m) ≡ 1) → Θ i ≤ countedFrom o s (k * Π i) (Δ i)
+  all-count : (k : ℕ) → ((m : ℕ) → m < Δ i → counted o s (k * Π i + m) ≡ 1) → Θ i ≤ units (counted o s) (k * Π i) (Δ i)
   all-count k h =
-      omega (
-        arith,
-        counted-units o s (k * Π i) (Δ i),
-        units-ones (k * Π i) (Δ i),
-        units-same (counted o s) (λ y. 1) (k * Π i) (k * Π i) (Δ i) h,
-      )
+      omega (arith, units-ones (k * Π i) (Δ i), units-same (counted o s) (λ y. 1) (k * Π i) (k * Π i) (Δ i) h)
 
   -- the period lies behind the trace, or before it, or the trace is empty, or its slot at the period's start or its first one stands there
-  each-period : Legal i o s → (k : ℕ) → Θ i ≤ countedFrom o s (k * Π i) (Δ i)
+  each-period : Legal i o s → (k : ℕ) → Θ i ≤ units (counted o s) (k * Π i) (Δ i)
   each-period legal k =
       go (decLe (o + length s) (k * Π i)) (decLe (k * Π i + Π i) o) (decLe (length s) 0)
     where
@@ -66,14 +62,14 @@ module _ (i : Interface) (v : ValidInterface i) (o : ℕ) (s : List ℕ) where
       place x e (yes h) = counted-after o s x (omega arith)
       place x e (no h) = counted-before o s x (omega arith)
 
-      go : Dec (o + length s ≤ k * Π i) → Dec (k * Π i + Π i ≤ o) → Dec (length s ≤ 0) → Θ i ≤ countedFrom o s (k * Π i) (Δ i)
+      go : Dec (o + length s ≤ k * Π i) → Dec (k * Π i + Π i ≤ o) → Dec (length s ≤ 0) → Θ i ≤ units (counted o s) (k * Π i) (Δ i)
       go (yes h) b c = all-count k (λ m l. counted-after o s (k * Π i + m) (omega arith))
       go (no h) (yes b) c = all-count k (λ m l. counted-before o s (k * Π i + m) (omega arith))
       go (no h) (no b) (yes c) = all-count k (λ m l. place (k * Π i + m) c (decLe o (k * Π i + m)))
       go (no h) (no b) (no c) =
           legal k (record { slot = k * Π i - o; inside = omega arith; from = omega arith; until = omega arith })
 
-  pub every-period : Legal i o s ↔ ((k : ℕ) → Θ i ≤ countedFrom o s (k * Π i) (Δ i))
+  pub every-period : Legal i o s ↔ ((k : ℕ) → Θ i ≤ units (counted o s) (k * Π i) (Δ i))
   every-period = (each-period, λ h k touched. h k)
 
 -- an empty trace touches no period

@@ -6,7 +6,7 @@ use lib.ListN.{getD, take, drop}
 use lib.Seq.{getD-drop}
 use native.Mathlib.Nat.{add-zero, zero-add, add-suc, suc-add, add-assoc, add-le-add, le-refl, le-antisymm, le-of-eq, lt-suc-self, le-step}
 use native.Mathlib.Omega.{arith}
-use Rattle.trace.specs.Legal.{supplied, counted, countedFrom}
+use Rattle.trace.specs.Legal.{supplied}
 use Rattle.trace.specs.Units.{units}
 
 pub units-add : (f : ℕ → ℕ) (x n m : ℕ) → units f x (n + m) ≡ units f x n + units f (x + n) m
@@ -51,13 +51,7 @@ units-both f g x y (suc n) h = omega (arith, units-both f g x y n (λ m l. h m (
 pub units-most : (f : ℕ → ℕ) → ((y : ℕ) → f y ≤ 1) → (x n : ℕ) → units f x n ≤ n
 units-most f h x n = omega (arith, units-ones x n, units-le f (λ y. 1) x x n (λ m l. h (x + m)))
 
--- what a trace counts is such a sum
-pub counted-units : (o : ℕ) (s : List ℕ) (x n : ℕ) → countedFrom o s x n ≡ units (counted o s) x n
-unfolding units countedFrom
-counted-units o s x zero = refl
-counted-units o s x (suc n) = rw (counted-units o s x n)
-
--- and so are its supplied slots, whole or in part
+-- the supplied slots of a trace, whole or in part, are such a sum
 supplied-front : (s : List ℕ) (n : ℕ) → supplied (take n s) ≡ units (λ m. getD s m 0) 0 n
 unfolding supplied units
 supplied-front s zero = refl

@@ -15,11 +15,11 @@ use native.Mathlib.Omega.{arith}
 use Rattle.budget.specs.declared.interface.Interface.{Interface}
 use Rattle.budget.specs.Interface.{Π, Θ, Δ}
 use Rattle.budget.proofs.Valid.{ValidInterface}
-use Rattle.trace.specs.Legal.{zerosAndOnes, counted, countedFrom, Legal}
+use Rattle.trace.specs.Legal.{zerosAndOnes, counted, Legal}
 use Rattle.trace.proofs.Curve.{gain}
 use Rattle.trace.proofs.Periods.{counted-before, counted-at, counted-bit, every-period}
 use Rattle.trace.specs.Units.{units}
-use Rattle.trace.proofs.Units.{units-same, units-none, units-both, counted-units}
+use Rattle.trace.proofs.Units.{units-same, units-none, units-both}
 
 -- what the period lacks after the slot at this place
 abbrev pub lacks : ℕ → ℕ → ℕ → ℕ → ℕ
@@ -168,13 +168,13 @@ pub legal-exactly : (i : Interface) → ValidInterface i → (o : ℕ) → o < �
     → (keeps (Π i) (Δ i) (Δ i - Θ i) o 0 s ≡ true) ↔ Legal i o s
 legal-exactly i v o h s bits = (λ t. every-period i v o s .1 (owes (walk .0 t)), λ l. walk .1 (lacks-few (every-period i v o s .0 l)))
   where
-    sums : (k : ℕ) → lacking (Π i) (Δ i) (counted o s) k + countedFrom o s (k * Π i) (Δ i) ≡ Δ i
-    sums k = rw counted-units (lacks-or-counts (Π i) (Δ i) (counted o s) (counted-bit o s bits) (v .within) k)
+    sums : (k : ℕ) → lacking (Π i) (Δ i) (counted o s) k + units (counted o s) (k * Π i) (Δ i) ≡ Δ i
+    sums k = lacks-or-counts (Π i) (Δ i) (counted o s) (counted-bit o s bits) (v .within) k
 
-    owes : ((k : ℕ) → lacking (Π i) (Δ i) (counted o s) (0 + k) ≤ Δ i - Θ i) → (k : ℕ) → Θ i ≤ countedFrom o s (k * Π i) (Δ i)
+    owes : ((k : ℕ) → lacking (Π i) (Δ i) (counted o s) (0 + k) ≤ Δ i - Θ i) → (k : ℕ) → Θ i ≤ units (counted o s) (k * Π i) (Δ i)
     owes a k = omega (arith, sums k, rw zero-add at (a k))
 
-    lacks-few : ((k : ℕ) → Θ i ≤ countedFrom o s (k * Π i) (Δ i)) → (k : ℕ) → lacking (Π i) (Δ i) (counted o s) (0 + k) ≤ Δ i - Θ i
+    lacks-few : ((k : ℕ) → Θ i ≤ units (counted o s) (k * Π i) (Δ i)) → (k : ℕ) → lacking (Π i) (Δ i) (counted o s) (0 + k) ≤ Δ i - Θ i
     lacks-few a k = rw zero-add (omega (arith, sums k, a k))
 
     before : 0 ≡ lacking-by (Π i) (Δ i) (counted o s) 0 o

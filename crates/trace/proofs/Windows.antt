@@ -6,7 +6,7 @@ use mathlib.Core.Bool.{true}
 use mathlib.Core.List.{List, [], _∷_}
 use lib.ListN.{length, getD, take, drop, length-take}
 use lib.Seq.{getD-take, getD-drop}
-use native.Mathlib.Nat.{add-assoc, le-dest, le-of-eq, le-of-suc-le-suc, not-suc-le-zero, div-add-mod'}
+use native.Mathlib.Nat.{add-assoc, le-dest, le-trans, le-of-eq, le-of-suc-le-suc, not-suc-le-zero, div-add-mod'}
 use native.Mathlib.Decide.{decLe}
 use native.Mathlib.Omega.{arith}
 use Rattle.budget.specs.declared.interface.Interface.{Interface}
@@ -17,7 +17,7 @@ use Rattle.trace.specs.Legal.{zerosAndOnes, supplied, counted, Legal}
 use Rattle.trace.specs.Units.{units}
 use Rattle.trace.proofs.Curve.{window}
 use Rattle.trace.proofs.Periods.{counted-before, counted-at, counted-after, counted-bit, every-period}
-use Rattle.trace.proofs.Units.{units-le, units-same, counted-units, supplied-part}
+use Rattle.trace.proofs.Units.{units-le, units-same, supplied-part}
 
 -- inside the list no default is read
 getD-inside : (s : List ℕ) (n d e : ℕ) → n < length s → getD s n d ≡ getD s n e
@@ -30,12 +30,8 @@ module _ (i : Interface) (v : ValidInterface i) where
   pub cut-legal : (f : ℕ → ℕ) → ((x : ℕ) → f x ≤ 1) → ((k : ℕ) → Θ i ≤ units f (k * Π i) (Δ i))
       → (x : ℕ) (s : List ℕ) → ((n : ℕ) → n < length s → f (x + n) ≡ getD s n 1) → Legal i (x % Π i) s
   cut-legal f one pays x s same k touched =
-      omega (
-        arith,
-        pays (x / Π i + k),
-        counted-units (x % Π i) s (k * Π i) (Δ i),
-        units-le f (counted (x % Π i) s) ((x / Π i + k) * Π i) (k * Π i) (Δ i) (λ m l. place m (decLe (x % Π i) (k * Π i + m))),
-      )
+      le-trans (pays (x / Π i + k))
+      (units-le f (counted (x % Π i) s) ((x / Π i + k) * Π i) (k * Π i) (Δ i) (λ m l. place m (decLe (x % Π i) (k * Π i + m))))
     where
       inside : (m n : ℕ) → x % Π i + n ≡ k * Π i + m → Dec (length s ≤ n) → f ((x / Π i + k) * Π i + m) ≤ counted (x % Π i) s (k * Π i + m)
       inside m n e (yes h) = rw (counted-after (x % Π i) s (k * Π i + m) (omega arith)) (one _)
@@ -51,7 +47,7 @@ module _ (i : Interface) (v : ValidInterface i) where
 
   module _ (o : ℕ) (s : List ℕ) (bits : zerosAndOnes s ≡ true) (legal : Legal i o s) where
     pays : (k : ℕ) → Θ i ≤ units (counted o s) (k * Π i) (Δ i)
-    pays k = omega (arith, counted-units o s (k * Π i) (Δ i), every-period i v o s .0 legal k)
+    pays = every-period i v o s .0 legal
 
     -- the n slots from slot a on, at the place of slot a
     pub part-legal : (a n : ℕ) → Legal i ((o + a) % Π i) (take n (drop a s))

@@ -1,12 +1,13 @@
 -- Legal supply (01, "Legal supply"): a trace is a row of 0 and 1 with an offset o, o < Π. In absolute time period k is the stretch
 -- [kΠ, kΠ + Π) and the trace is the window [o, o + length): slot i stands at the absolute place o + i, which is place (o + i) mod Π of its period.
-use Prim.Native.Nat.{ℕ, zero, suc, _+_, _-_, _*_, _≤_, _<_}
+use Prim.Native.Nat.{ℕ, _+_, _-_, _*_, _≤_, _<_}
 use mathlib.Core.Bool.{Bool, true, cond, _&&_}
 use mathlib.Core.List.{List, [], _∷_}
 use lib.ListN.{length, getD}
 use lib.Dec.{ltb, leb}
 use Rattle.budget.specs.declared.interface.Interface.{Interface}
 use Rattle.budget.specs.Interface.{Π, Θ, Δ}
+use Rattle.trace.specs.Units.{units}
 
 -- "a row of 0 and 1"
 unfoldable pub zerosAndOnes : List ℕ → Bool
@@ -22,11 +23,6 @@ supplied (b ∷ s) = b + supplied s
 unfoldable pub counted : ℕ → List ℕ → ℕ → ℕ
 counted o s x = cond (ltb x o) 1 (getD s (x - o) 1)
 
--- what the n absolute places from x on count
-unfoldable pub countedFrom : ℕ → List ℕ → ℕ → ℕ → ℕ
-countedFrom o s x zero = 0
-countedFrom o s x (suc n) = countedFrom o s x n + counted o s (x + n)
-
 -- the trace touches period k: some slot of it stands there
 pub record Touches (i : Interface) (o : ℕ) (s : List ℕ) (k : ℕ) : Type 0 where
   pub slot : ℕ
@@ -37,4 +33,4 @@ pub record Touches (i : Interface) (o : ℕ) (s : List ℕ) (k : ℕ) : Type 0 w
 -- "for every period that the trace touches, supplied slots at places below Δ, plus places below Δ of that period lying outside the
 -- trace, are at least Θ"
 abbrev pub Legal : Interface → ℕ → List ℕ → Type 0
-Legal i o s = (k : ℕ) → Touches i o s k → Θ i ≤ countedFrom o s (k * Π i) (Δ i)
+Legal i o s = (k : ℕ) → Touches i o s k → Θ i ≤ units (counted o s) (k * Π i) (Δ i)
