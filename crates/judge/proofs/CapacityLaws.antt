@@ -6,14 +6,17 @@ use mathlib.Core.List.{List}
 use native.Mathlib.Decide.{decLe}
 use native.Mathlib.Nat.{le-trans, lt-of-le-of-lt, not-le-of-lt, lt-of-not-le, not-suc-le-zero}
 use native.Mathlib.Omega.{arith}
+use Rattle.budget.specs.declared.component.Component.{Component}
 use Rattle.budget.specs.declared.interface.Interface.{Interface}
 use Rattle.budget.specs.declared.task.Task.{Task}
+use Rattle.budget.specs.Component.{commonPeriodOf}
 use Rattle.budget.specs.Demand.{demand}
 use Rattle.budget.specs.Interface.{interface, validInterface}
 use Rattle.budget.specs.Supply.{supply}
+use Rattle.budget.specs.Task.{tasksOf}
 use Rattle.budget.proofs.SupplyLaws.{supply-capacity}
 use Rattle.budget.proofs.Valid.{ValidInterface, valid-interface, interface-valid}
-use Rattle.judge.specs.Capacity.{Raised, smallestCapacity}
+use Rattle.judge.specs.Capacity.{Raised, smallestCapacity, capacityOf}
 use Rattle.judge.specs.Verdict.{accepts}
 use Rattle.judge.proofs.SearchLaws.{Smallest, smallest-is, smallest-only}
 use Rattle.judge.proofs.VerdictLaws.{FitsBefore, fits-start, fits-on, accepts-fits, fits-accepts}
@@ -128,3 +131,8 @@ module _ (ks : List Task) (p d n : ℕ) where
               still;
           short = raised-short;
         }
+
+-- what a walk up to L finds is the component's smallest capacity
+pub capacity-is : (k : Component) (n q : ℕ) → n ≡ commonPeriodOf k → q ≡ smallestCapacity (tasksOf (k .table)) (k .period .0) (k .deadline .0) n → capacityOf k ≡ q
+unfolding capacityOf
+capacity-is k n q whole found = sym (found ∙ ap (λ (m : ℕ). smallestCapacity (tasksOf (k .table)) (k .period .0) (k .deadline .0) m) whole)

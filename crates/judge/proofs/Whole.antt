@@ -1,16 +1,20 @@
 -- What the answer on a component's common period shows: the refusal that every answer about the component gives, or L and numbers in their ranges.
 use Prim.Native.Nat.{ℕ, _≤_}
-use mathlib.Core.Path.{_≡_, refl, sym, _∙_, ap}
+use mathlib.Core.Path.{_≡_, refl, sym, _∙_, ap, subst}
 use mathlib.Core.Bool.{Bool, true, false, cond}
 use lib.Dec.{eqb}
 use borrow.Author.Tests.{eq-eqb, ne-eqb}
 use native.Mathlib.Omega.{arith}
 use Rattle.budget.specs.declared.common_period.CommonPeriod.{CommonPeriod}
+use Rattle.budget.specs.declared.component.Capacity.{Capacity}
+use Rattle.budget.specs.declared.component.Capacity.the-variants.{Stated}
 use Rattle.budget.specs.declared.component.Component.{Component}
+use Rattle.budget.specs.declared.quantity.Units.{Units}
 use Rattle.budget.specs.Component.{unitsOf, interfaceOf, interfaceAt, commonPeriodOf, componentRefusal, commonPeriodAnswer}
 use Rattle.budget.specs.Interface.{validInterface}
 use Rattle.budget.specs.Refusal as refusal
 use Rattle.budget.proofs.Ranges.{unrefused}
+use Rattle.budget.proofs.Valid.{valid-interface}
 use Rattle.judge.specs.Verdict.{Scannable}
 use Rattle.judge.proofs.CapacityLaws.{capacity-valid}
 
@@ -19,6 +23,11 @@ module _ (c : Component) where
   pub in-range-at : componentRefusal c ≡ refusal.none → (q : ℕ) → q ≤ c .deadline .0 → validInterface (interfaceAt c q) ≡ true
   unfolding interfaceOf
   in-range-at e q h = capacity-valid (c .period .0) (c .deadline .0) (unitsOf (c .capacity)) (unrefused c e .0 .interface) q h
+
+  -- and its stated capacity is one of them
+  pub stated-fits : componentRefusal c ≡ refusal.none → (u : Units) → c .capacity ≡ Stated u → u .0 ≤ c .deadline .0
+  unfolding interfaceOf
+  stated-fits e u is = subst (λ (a : Capacity). unitsOf a ≤ c .deadline .0) is (valid-interface (interfaceOf c) (unrefused c e .0 .interface) .fits)
 
   module _ (r : CommonPeriod) (is : r ≡ commonPeriodAnswer c) where
     pub refused : componentRefusal c ≡ r .refusal

@@ -1,4 +1,5 @@
 pub mod Capacity
+pub mod Judged
 pub mod Search
 pub mod Steps
 pub mod Verdict

@@ -1,12 +1,22 @@
 // The verdict on a component: accepted, short at the first short instant, or none.
+use crate::answer::Judged;
+use crate::answer::Verdict;
+use crate::capacity::least_capacity;
 use crate::steps::columns_of;
 use crate::steps::pass;
+use budget::common_period::common_period;
+use budget::component::Capacity;
+use budget::component::Component;
 use budget::interface::Interface;
 use budget::quantity::Time;
+use budget::quantity::Units;
+use budget::refusal;
 use budget::supply::supply;
 use budget::task::Table;
 ghost use mathlib.Core.Path.{_≡_};
+ghost use Rattle.budget.specs.Component.{interfaceAt, commonPeriodOf};
 ghost use Rattle.budget.specs.Task.{tasksOf};
+ghost use Rattle.judge.specs.Judged.{judgedAt, verdictAnswer};
 ghost use Rattle.judge.specs.Verdict.{Scannable, firstShort};
 
 // The first short instant from 1 to `length`, or `length` + 1 where there is none. Between step instants demand stands still and supply never
@@ -35,4 +45,58 @@ fn first_short(table: Table, interface: Interface, length: u32) -> u32
         at = step.next;
     };
     found
+}
+
+// The answer on a stated capacity.
+fn on_stated(component: Component, units: Units, length: u32) -> Judged
+    requires { ⌜ Scannable (component .table) (interfaceAt component (units .0)) length ⌝ }
+    requires { ⌜ length ≡ commonPeriodOf component ⌝ }
+    ensures { λ r. ⌜ r ≡ judgedAt component (Capacity.Stated units) ⌝ }
+{
+    let table = component.table;
+    let period = component.period;
+    let deadline = component.deadline;
+    let interface = Interface {
+        period,
+        capacity: units,
+        deadline,
+    };
+    let found = first_short(table, interface, length);
+    if length < found {
+        return Judged::Answered(units, Verdict::Accepted);
+    }
+    Judged::Answered(units, Verdict::Short(Time(found)))
+}
+
+// The answer on an asked capacity: the smallest one that is accepted, or none.
+fn on_asked(component: Component, length: u32) -> Judged
+    requires { ⌜ Scannable (component .table) (interfaceAt component 0) length ⌝ }
+    requires { ⌜ length ≡ commonPeriodOf component ⌝ }
+    ensures { λ r. ⌜ r ≡ judgedAt component Capacity.Asked ⌝ }
+{
+    let table = component.table;
+    let deadline = component.deadline;
+    let found = least_capacity(table, component.period, deadline, length);
+    let last = deadline.0;
+    if found <= last {
+        return Judged::Answered(Units(found), Verdict::Accepted);
+    }
+    Judged::Answered(Units(0), Verdict::None)
+}
+
+// The verdict on a component, with the capacity stated or found.
+pub fn verdict(component: Component) -> Judged
+    ensures { λ r. ⌜ r ≡ verdictAnswer component ⌝ }
+{
+    let whole = common_period(component);
+    let refused = whole.refusal;
+    if refused != refusal::NONE {
+        return Judged::Refused(refused);
+    }
+    let length = whole.length.0;
+    let capacity = component.capacity;
+    match capacity {
+        Capacity::Stated(units) => on_stated(component, units, length),
+        Capacity::Asked => on_asked(component, length),
+    }
 }

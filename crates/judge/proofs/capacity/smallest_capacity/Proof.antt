@@ -1,32 +1,28 @@
 -- `judge::capacity::smallest_capacity` meets its contract: the refusal of the common period's answer, or what the walk up to L finds.
 use Prim.Native.Nat.{ℕ, _≤_, _<_}
-use mathlib.Core.Path.{_≡_, sym, _∙_, ap}
+use mathlib.Core.Path.{_≡_, sym, _∙_}
 use native.Mathlib.Omega.{arith}
 use borrow.Author.Needs.{needs}
 use borrow.Author.Tests.{le-leb, lt-leb}
 use Rattle.budget.specs.declared.component.Component.{Component}
-use Rattle.budget.specs.Component.{commonPeriodOf, componentRefusal}
+use Rattle.budget.specs.Component.{componentRefusal}
 use Rattle.budget.specs.Refusal as refusal
-use Rattle.budget.specs.Task.{tasksOf}
 use Rattle.judge.specs.declared.answer.Smallest.the-variants as Variant
-use Rattle.judge.specs.Capacity.{capacityOf, capacityAnswer, smallestCapacity}
+use Rattle.judge.specs.Capacity.{capacityOf, capacityAnswer}
+use Rattle.judge.proofs.CapacityLaws.{capacity-is}
 use Rattle.judge.proofs.Whole.{refused, length-is, scannable, answer-refused, answer-given}
 use Rattle.judge.proofs.capacity.smallest_capacity.Statement.{statement}
 use Rattle.judge.proofs.capacity.smallest_capacity.Tie as tie
 
 -- the answer where the component is not refused, from what the walk finds
-module _ (k : Component) (e : componentRefusal k ≡ refusal.none) (n q : ℕ) (whole : n ≡ commonPeriodOf k) (found : q ≡ smallestCapacity (tasksOf (k .table)) (k .period .0) (k .deadline .0) n) where
-  capacity-is : capacityOf k ≡ q
-  unfolding capacityOf
-  capacity-is = sym (found ∙ ap (λ (m : ℕ). smallestCapacity (tasksOf (k .table)) (k .period .0) (k .deadline .0) m) whole)
-
+module _ (k : Component) (e : componentRefusal k ≡ refusal.none) (q : ℕ) (is : capacityOf k ≡ q) where
   some-found : q ≤ k .deadline .0 → Variant.Found (record { 0 = q }) ≡ capacityAnswer k
   unfolding capacityAnswer
-  some-found h = sym (answer-given (componentRefusal k) _ _ e ∙ rw (capacity-is, le-leb q (k .deadline .0) h))
+  some-found h = sym (answer-given (componentRefusal k) _ _ e ∙ rw (is, le-leb q (k .deadline .0) h))
 
   none-found : k .deadline .0 < q → Variant.None ≡ capacityAnswer k
   unfolding capacityAnswer
-  none-found h = sym (answer-given (componentRefusal k) _ _ e ∙ rw (capacity-is, lt-leb q (k .deadline .0) h))
+  none-found h = sym (answer-given (componentRefusal k) _ _ e ∙ rw (is, lt-leb q (k .deadline .0) h))
 
 common-period-requires : tie.Need-common-period-requires
 common-period-requires c κs = search needs
@@ -44,13 +40,13 @@ returns-2 : tie.Need-returns-2
 returns-2 c =
     let p = c .before .before .before .before .before .common-period in
     let e = c .before .before .before .before .if1 .left in
-    some-found _ (refused _ _ (p .ensures) ∙ e) _ _ (length-is _ (p .result) (p .ensures) e) (c .before .least-capacity .ensures) (c .if2 .taken)
+    some-found _ (refused _ _ (p .ensures) ∙ e) _ (capacity-is _ _ _ (length-is _ (p .result) (p .ensures) e) (c .before .least-capacity .ensures)) (c .if2 .taken)
 
 returns-3 : tie.Need-returns-3
 returns-3 c =
     let p = c .before .before .before .before .before .common-period in
     let e = c .before .before .before .before .if1 .left in
-    none-found _ (refused _ _ (p .ensures) ∙ e) _ _ (length-is _ (p .result) (p .ensures) e) (c .before .least-capacity .ensures) (c .if2 .left)
+    none-found _ (refused _ _ (p .ensures) ∙ e) _ (capacity-is _ _ _ (length-is _ (p .result) (p .ensures) e) (c .before .least-capacity .ensures)) (c .if2 .left)
 
 pub smallest-capacity-spec : {M : Type 1} → statement M
 smallest-capacity-spec = tie.close (tie.spec common-period-requires returns least-capacity-requires returns-2 returns-3)
