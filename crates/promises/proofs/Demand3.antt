@@ -1,28 +1,45 @@
 -- The statements of the third demand, proved.
 use Prim.Native.Nat.{ℕ, _+_, _≤_, _<_}
-use mathlib.Core.Bool.{true}
+use mathlib.Core.Bool.{Bool, cond, false, true}
 use mathlib.Core.List.{List}
 use mathlib.Core.Path.{_≡_, refl, sym, subst, _∙_}
+use lib.Dec.{leb}
 use lib.ListN.{length}
+use borrow.Author.Tests.{eq-eqb, leb-false, leb-true}
 use native.Mathlib.Decide.{decLt}
-use native.Mathlib.Nat.{add-sub-cancel-left, le-add-right, le-of-eq, le-refl, le-trans}
+use native.Mathlib.Nat.{add-sub-cancel-left, le-add-right, le-of-eq, le-refl, le-trans, not-le-of-lt}
 use native.Mathlib.Omega.{arith}
+use Rattle.budget.specs.declared.component.Capacity.{Capacity}
+use Rattle.budget.specs.declared.component.Capacity.the-variants.{Asked, Stated}
+use Rattle.budget.specs.declared.component.Component.{Component}
 use Rattle.budget.specs.declared.interface.Interface.{Interface}
+use Rattle.budget.specs.declared.quantity.Units.{Units}
 use Rattle.budget.specs.declared.task.Task.{Task}
+use Rattle.budget.specs.Component.{commonPeriodOf, interfaceAt, interfaceOf, unitsOf}
 use Rattle.budget.specs.Interface.{validInterface}
 use Rattle.budget.specs.Supply.{supply}
-use Rattle.budget.specs.Task.{validTasks}
+use Rattle.budget.specs.Task.{tasksOf, validTasks}
+use Rattle.budget.proofs.Ranges.{unrefused}
 use Rattle.budget.proofs.Valid.{valid-interface}
-use Rattle.judge.specs.Verdict.{Accepted, ShortAt}
+use Rattle.judge.specs.declared.answer.Judged.the-variants.{Answered}
+use Rattle.judge.specs.declared.answer.Smallest.the-variants as Search
+use Rattle.judge.specs.declared.answer.Verdict.the-variants as Variant
+use Rattle.judge.specs.declared.answer.Verdict.{Verdict}
+use Rattle.judge.specs.Capacity.{capacityAnswer, capacityOf}
+use Rattle.judge.specs.Judged.{judgedAt, verdictAnswer}
+use Rattle.judge.specs.Verdict.{Accepted, Judgement, ShortAt, verdictOn}
+use Rattle.judge.proofs.CapacityLaws.{capacity-valid}
+use Rattle.judge.proofs.VerdictLaws.{verdict-right}
 use Rattle.run.specs.Run.{MissAt}
 use Rattle.trace.specs.Units.{units}
 use Rattle.trace.proofs.Units.{supplied-part}
 use Rattle.trace.proofs.Windows.{window-units}
 use Rattle.trace.specs.WorstTrace.{worstOffset, worstTrace}
 use Rattle.trace.proofs.WorstTrace.{worst-bits, worst-legal, worst-length, worst-prefix, worst-within}
-use Rattle.promises.specs.Demand3.{AcceptedNeverMisses, Balance, EarliestDeadlineFirst, Misses, NoMissWhileFitting, Run, RunByEarliestDeadline, ShortMissesThen, UrgentWork, WorkWithinDemand}
+use Rattle.promises.specs.Demand3.{AcceptedNeverMisses, AskedPromise, CapacityPromise, Demand3, Promise, StatedPromise, Balance, EarliestDeadlineFirst, Misses, NoMissWhileFitting, Run, RunByEarliestDeadline, ShortMissesThen, UrgentWork, WorkWithinDemand}
 use Rattle.promises.specs.Serving.{dueBy, unitOf, workOf}
 use Rattle.promises.specs.Synchronous.{synchronous}
+use Rattle.promises.proofs.Capacity.{least-accepted, short-none, smaller-short}
 use Rattle.promises.proofs.DemandBound as DemandBound
 use Rattle.promises.proofs.EarliestDeadline.{earliest-first, left-at-by}
 use Rattle.promises.proofs.NoMiss.{late-by, no-miss, too-few}
@@ -108,3 +125,46 @@ short-misses-then ks i tasks interface t short =
       misses = it-misses ks i tasks interface t short;
       earliest = none-earlier ks i tasks interface t short;
     }
+
+-- the judge's answer, for a stated and for an asked capacity
+module _ (c : Component) (tasks : validTasks (tasksOf (c .table)) ≡ true) (a : ℕ) (range : validInterface (interfaceAt c a) ≡ true) where
+  on-stated : (u : Units) → validInterface (interfaceAt c (u .0)) ≡ true → (v : Verdict) → Judgement (tasksOf (c .table)) (interfaceAt c (u .0)) v
+      → StatedPromise c u (Answered u v)
+  on-stated u valid Variant.Accepted h = (refl, accepted-never-misses _ _ tasks valid h)
+  on-stated u valid (Variant.Short t) h = (refl, short-misses-then _ _ tasks valid (t .0) h)
+  on-stated u valid Variant.None h = h
+
+  on-search : (b : Bool) → leb (capacityOf c) (c .deadline .0) ≡ b → CapacityPromise c (cond b (Search.Found (record { 0 = capacityOf c })) Search.None)
+  unfolding capacityOf commonPeriodOf
+  on-search true e =
+      let ks = tasksOf (c .table) in
+      let p = c .period .0 in
+      let d = c .deadline .0 in
+      let h : capacityOf c ≤ d = leb-true _ _ e in (
+        record { within = h; accepted = least-accepted ks tasks p d a range h; smaller = smaller-short ks tasks p d a range },
+        λ s. not-le-of-lt (short-none ks tasks p d a range (s .0) (s .1)) h,
+      )
+  on-search false e = smaller-short (tasksOf (c .table)) tasks (c .period .0) (c .deadline .0) a range (c .deadline .0) (leb-false _ _ e)
+
+  on-asked : (b : Bool) → CapacityPromise c (cond b (Search.Found (record { 0 = capacityOf c })) Search.None)
+      → AskedPromise c (cond b (Answered (record { 0 = capacityOf c }) Variant.Accepted) (Answered (record { 0 = 0 }) Variant.None))
+  on-asked true h =
+      let smallest = h .0 in
+      let valid = capacity-valid (c .period .0) (c .deadline .0) a range (capacityOf c) (smallest .within) in
+      (smallest, h .1, accepted-never-misses _ (interfaceAt c (capacityOf c)) tasks valid (smallest .accepted))
+  on-asked false h = h
+
+  promised : (k : Capacity) → a ≡ unitsOf k → Promise c k (judgedAt c k)
+  unfolding judgedAt commonPeriodOf
+  promised (Stated u) e =
+      let valid : validInterface (interfaceAt c (u .0)) ≡ true = rw e at range in
+      on-stated u valid (verdictOn (tasksOf (c .table)) (interfaceAt c (u .0)) (commonPeriodOf c))
+      (verdict-right (tasksOf (c .table)) tasks (interfaceAt c (u .0)) (valid-interface _ valid))
+  promised Asked e = let b = leb (capacityOf c) (c .deadline .0) in on-asked b (on-search b refl)
+
+pub demand-3 : Demand3
+unfolding verdictAnswer capacityAnswer interfaceOf
+demand-3 c e =
+    let v = unrefused c e .0 in
+    let a = unitsOf (c .capacity) in
+    rw (eq-eqb _ _ e) (promised c (v .tasks) a (v .interface) (c .capacity) refl, on-search c (v .tasks) a (v .interface) _ refl)

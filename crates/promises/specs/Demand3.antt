@@ -5,17 +5,30 @@ use mathlib.Core.List.{List}
 use mathlib.Core.Path.{_≡_}
 use lib.Dec.{leb}
 use lib.ListN.{length}
+use Rattle.budget.specs.declared.component.Capacity.{Capacity}
+use Rattle.budget.specs.declared.component.Capacity.the-variants.{Asked, Stated}
+use Rattle.budget.specs.declared.component.Component.{Component}
 use Rattle.budget.specs.declared.interface.Interface.{Interface}
+use Rattle.budget.specs.declared.quantity.Units.{Units}
 use Rattle.budget.specs.declared.task.Task.{Task}
+use Rattle.budget.specs.Component.{componentRefusal, interfaceAt}
 use Rattle.budget.specs.Demand.{demand}
 use Rattle.budget.specs.Interface.{Π, validInterface}
+use Rattle.budget.specs.Refusal as refusal
 use Rattle.budget.specs.Supply.{supply}
-use Rattle.budget.specs.Task.{validTasks}
+use Rattle.budget.specs.Task.{tasksOf, validTasks}
+use Rattle.judge.specs.declared.answer.Judged.{Judged}
+use Rattle.judge.specs.declared.answer.Judged.the-variants.{Answered, Refused}
+use Rattle.judge.specs.declared.answer.Smallest.{Smallest}
+use Rattle.judge.specs.declared.answer.Smallest.the-variants as Search
+use Rattle.judge.specs.declared.answer.Verdict.the-variants as Variant
+use Rattle.judge.specs.Capacity.{capacityAnswer}
+use Rattle.judge.specs.Judged.{verdictAnswer}
+use Rattle.judge.specs.Verdict.{Accepted, ShortAt}
 use Rattle.run.specs.Job.{Job, legalArrival}
 use Rattle.run.specs.Run.{MissAt, leftAt}
 use Rattle.trace.specs.Legal.{Legal, zerosAndOnes}
 use Rattle.trace.specs.WorstTrace.{worstOffset, worstTrace}
-use Rattle.judge.specs.Verdict.{Accepted, ShortAt}
 use Rattle.promises.specs.Serving.{Flow, Rule, UrgentFirst, Window, asked, dueBy, earliestDeadline, leftBy, unitOf, waitingAt, workOf}
 use Rattle.promises.specs.Synchronous.{synchronous}
 
@@ -47,6 +60,46 @@ pub record MissesFirstAt (ks : List Task) (i : Interface) (t : ℕ) : Type 0 whe
   pub trace : run .trace ≡ worstTrace i t
   pub misses : Misses ks i run t
   pub earliest : (other : Run ks i) (u : ℕ) → u < t → Misses ks i other u → ⊥
+
+-- a capacity that is "the smallest one accepted for that period and deadline"
+pub record SmallestAccepted (c : Component) (q : ℕ) : Type 0 where
+  pub within : q ≤ c .deadline .0
+  pub accepted : Accepted (tasksOf (c .table)) (interfaceAt c q)
+  pub smaller : (r : ℕ) → r < q → (t : ℕ) × ShortAt (tasksOf (c .table)) (interfaceAt c r) t
+
+-- "the full deadline as capacity is still short"
+abbrev pub DeadlineShort : Component → Type 0
+DeadlineShort c = (t : ℕ) × ShortAt (tasksOf (c .table)) (interfaceAt c (c .deadline .0)) t
+
+-- "A capacity that we ask for is the smallest one accepted for that period and deadline; "none" comes exactly when the full deadline as
+-- capacity is still short", for the search alone
+abbrev pub CapacityPromise : Component → Smallest → Type 0
+CapacityPromise c (Search.Refused n) = ⊥
+CapacityPromise c (Search.Found q) = SmallestAccepted c (q .0) × (DeadlineShort c → ⊥)
+CapacityPromise c Search.None = DeadlineShort c
+
+-- "For a stated capacity the judge answers accepted or short, nothing else", and what each says
+abbrev pub StatedPromise : Component → Units → Judged → Type 0
+StatedPromise c u (Refused n) = ⊥
+StatedPromise c u (Answered q Variant.Accepted) = (q ≡ u) × NeverMisses (tasksOf (c .table)) (interfaceAt c (u .0))
+StatedPromise c u (Answered q (Variant.Short t)) = (q ≡ u) × MissesFirstAt (tasksOf (c .table)) (interfaceAt c (u .0)) (t .0)
+StatedPromise c u (Answered q Variant.None) = ⊥
+
+-- the same for the judge's answer on an asked capacity
+abbrev pub AskedPromise : Component → Judged → Type 0
+AskedPromise c (Refused n) = ⊥
+AskedPromise c (Answered q Variant.Accepted) =
+    SmallestAccepted c (q .0) × (DeadlineShort c → ⊥) × NeverMisses (tasksOf (c .table)) (interfaceAt c (q .0))
+AskedPromise c (Answered q (Variant.Short t)) = ⊥
+AskedPromise c (Answered q Variant.None) = DeadlineShort c
+
+abbrev pub Promise : Component → Capacity → Judged → Type 0
+Promise c (Stated u) = StatedPromise c u
+Promise c Asked = AskedPromise c
+
+-- "Take any component within the limits whose common period is within its limit"
+abbrev pub Demand3 : Type 0
+Demand3 = (c : Component) → componentRefusal c ≡ refusal.none → Promise c (c .capacity) (verdictAnswer c) × CapacityPromise c (capacityAnswer c)
 
 -- what stands behind it, first for any rule of service: where the urgent jobs go first, the urgent work that waits is what arrives less
 -- what is given, and at each instant some window that ends there balances
