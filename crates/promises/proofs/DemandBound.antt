@@ -3,10 +3,10 @@
 use Prim.Native.Nat.{ℕ, zero, suc, _+_, _*_, _≤_, _<_}
 use mathlib.Core.Bool.{Bool, true, false, _&&_}
 use mathlib.Core.List.{List, [], _∷_}
-use mathlib.Core.Path.{_≡_, refl, sym, ap, _∙_}
+use mathlib.Core.Path.{_≡_, refl, sym, _∙_}
 use lib.Dec.{leb, ltb, eqb}
 use lib.ListN.{length, getD}
-use borrow.Author.Tests.{leb-true, eqb-true, ltb-true, le-leb, lt-ltb, eq-eqb}
+use borrow.Author.Tests.{leb-true, eqb-true, ltb-true, le-leb, lt-ltb}
 use native.Mathlib.Nat.{zero-add, suc-add, not-suc-le-zero, le-trans, lt-of-mul-lt-mul-right, mul-le-mul-right}
 use native.Mathlib.Omega.{arith}
 use Rattle.budget.specs.declared.task.Task.{Task}
@@ -14,42 +14,13 @@ use Rattle.budget.specs.Task.{T, C, D, noTask, validTasks}
 use Rattle.budget.specs.Demand.{demand, jobsBy}
 use Rattle.budget.proofs.Valid.{both, and-true, ValidTask, valid-at}
 use Rattle.budget.proofs.DemandLaws.{jobs-next-after}
-use Rattle.run.specs.Job.{Job, taskOf, deadline, validJob, inOrder, apart, beforeAll, legalArrival}
+use Rattle.run.specs.Job.{Job, deadline, validJob, beforeAll, legalArrival}
 use Rattle.run.specs.Run.{noJob}
+use Rattle.run.proofs.Arrival.{ValidJob, apart-at, arrival-at, task-of, valid-job}
 use Rattle.trace.specs.Units.{units}
 use Rattle.trace.proofs.Units.{units-front, units-le, units-same}
 use Rattle.promises.specs.Serving.{workOf, dueBy}
 use Rattle.promises.proofs.Sums.{work-by-key, work-le, work-none}
-
--- what a legal arrival says of each job
-pub record ValidJob (ks : List Task) (j : Job) : Type 0 where
-  pub numbered : j .task < length ks
-  pub works : 1 ≤ j .work
-  pub most : j .work ≤ C (taskOf ks j)
-
-pub valid-job : (ks : List Task) (j : Job) → validJob ks j ≡ true → ValidJob ks j
-unfolding validJob
-valid-job ks j e =
-    let a = both _ _ e in
-    let b = both _ _ (a .1) in
-    record { numbered = ltb-true _ _ (a .0); works = leb-true _ _ (b .0); most = leb-true _ _ (b .1) }
-
-pub arrival-at : (ks : List Task) (js : List Job) → legalArrival ks js ≡ true → (q : ℕ) → q < length js → ValidJob ks (getD js q noJob)
-unfolding legalArrival
-arrival-at ks [] e q l = absurd (omega arith)
-arrival-at ks (j ∷ js) e zero l = valid-job ks j (both _ _ e .0)
-arrival-at ks (j ∷ js) e (suc q) l = arrival-at ks js (both (beforeAll ks j js) _ (both (validJob ks j) _ e .1) .1) q (omega arith)
-
-apart-of : (ks : List Task) (a b : Job) → apart ks a b ≡ true → a .task ≡ b .task → a .release + T (taskOf ks a) ≤ b .release
-unfolding apart
-apart-of ks a b e h = leb-true _ _ (rw (eq-eqb _ _ h) at e)
-
-apart-at : (ks : List Task) (a : Job) (js : List Job) → beforeAll ks a js ≡ true → (q : ℕ) → q < length js → a .task ≡ (getD js q noJob) .task
-    → a .release + T (taskOf ks a) ≤ (getD js q noJob) .release
-unfolding beforeAll
-apart-at ks a [] e q l h = absurd (omega arith)
-apart-at ks a (b ∷ js) e zero l h = apart-of ks a b (both (inOrder a b) _ (both _ _ e .0) .1) h
-apart-at ks a (b ∷ js) e (suc q) l h = apart-at ks a js (both (inOrder a b && apart ks a b) _ e .1) q (omega arith) h
 
 -- the jobs of one task that are released at a or later and due by t
 abbrev ofTask : List Task → ℕ → ℕ → ℕ → Job → Bool
@@ -64,10 +35,6 @@ pub record Counted (ks : List Task) (js : List Job) (i a t : ℕ) : Type 0 where
   pub jobs : ℕ
   pub work : workOf (ofTask ks i a t) js ≤ jobs * C (getD ks i noTask)
   pub fit : Fit (getD ks i noTask) a t jobs
-
-task-of : (ks : List Task) (j : Job) (i : ℕ) → j .task ≡ i → taskOf ks j ≡ getD ks i noTask
-unfolding taskOf
-task-of ks j i e = ap (λ (n : ℕ). getD ks n noTask) e
 
 -- what the test of one task's jobs shows
 record OfTask (ks : List Task) (i a t : ℕ) (j : Job) : Type 0 where

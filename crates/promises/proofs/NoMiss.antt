@@ -19,13 +19,15 @@ use Rattle.budget.specs.Supply.{supply}
 use Rattle.budget.proofs.Valid.{both, and-true, valid-at}
 use Rattle.budget.proofs.DemandLaws.{demand-zero}
 use Rattle.run.specs.Job.{Job, deadline, taskOf, legalArrival}
-use Rattle.run.specs.Run.{MissAt, noJob}
+use Rattle.run.specs.Run.{MissAt, leftAt, noJob}
+use Rattle.run.proofs.Arrival.{arrival-at}
+use Rattle.run.proofs.RunLaws.{left-falls-by}
 use Rattle.trace.specs.Legal.{zerosAndOnes}
 use Rattle.trace.specs.Units.{units}
 use Rattle.promises.specs.Serving.{asked, dueBy, earliestDeadline, leftBy, unitOf, waitingAt, workOf}
-use Rattle.promises.proofs.DemandBound.{arrival-at, work-within-demand}
+use Rattle.promises.proofs.DemandBound.{work-within-demand}
 use Rattle.promises.proofs.EarliestDeadline.{earliest-first, left-at-by}
-use Rattle.promises.proofs.Serving.{flow, left-falls}
+use Rattle.promises.proofs.Serving.{flow}
 use Rattle.promises.proofs.Sums.{left-at, left-found, work-below-or-from, work-by-key, work-le, work-none}
 use Rattle.promises.proofs.Window.{window, arrived}
 
@@ -105,8 +107,8 @@ module _ (ks : List Task) (valid : validTasks ks ≡ true) (js : List Job) (arri
         let u = deadline ks j in
         let due : u ≤ t = leb-true _ _ (both (ltb (j .release) t) _ (f .passes) .1) in
         let d = le-dest due in
-        let still : 0 < getD (left (u + d .0)) (f .place) 0 = rw (d .1) (f .some) in
-        (u, due, record { place = f .place; inside = f .inside; due = refl; late = rw left-at-by (le-trans still (left-falls (earliestDeadline ks js) js s u (d .0) (f .place))) })
+        let still : 0 < getD (leftAt ks js s (u + d .0)) (f .place) 0 = rw (d .1, left-at-by) (f .some) in
+        (u, due, record { place = f .place; inside = f .inside; due = refl; late = le-trans still (left-falls-by ks js s u (d .0) (f .place)) })
 
     -- fewer units than the work due by t leave some of it
     pub too-few : (t : ℕ) → units (unitOf s) 0 t < workOf (dueBy ks t) js → 0 < waitingAt (dueBy ks t) (earliestDeadline ks js) js s t

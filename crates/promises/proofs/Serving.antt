@@ -10,7 +10,7 @@ use lib.ListN.{length, getD, length-map, length-set, List·getD-map}
 use lib.Seq.{getD-set-other}
 use borrow.Author.Tests.{leb-true, ltb-true, eqb-true, eqb-false, le-leb, lt-ltb}
 use native.Mathlib.Decide.{decLt}
-use native.Mathlib.Nat.{add-zero, add-suc, le-refl, le-trans, le-of-eq}
+use native.Mathlib.Nat.{le-of-eq}
 use native.Mathlib.Omega.{arith}
 use Rattle.budget.proofs.Valid.{both, and-true}
 use Rattle.run.specs.Job.{Job}
@@ -42,18 +42,6 @@ unit-most (b ∷ s) e (suc n) = unit-most s (both (leb b 1) _ e .1) n
 positive : (b : ℕ) → b ≤ 1 → eqb b 0 ≡ false → b ≡ 1
 positive b h e = let d : b ≢ 0 = eqb-false b 0 e in omega arith
 
-serve-le : (left : List ℕ) (p q : ℕ) → getD (serve left p) q 0 ≤ getD left q 0
-unfolding serve
-serve-le [] p q = le-refl _
-serve-le (w ∷ left) zero zero = omega arith
-serve-le (w ∷ left) zero (suc q) = le-refl _
-serve-le (w ∷ left) (suc p) zero = le-refl _
-serve-le (w ∷ left) (suc p) (suc q) = serve-le left p q
-
-slot-le : (b : Bool) (left : List ℕ) (p q : ℕ) → getD (cond b left (serve left p)) q 0 ≤ getD left q 0
-slot-le true left p q = le-refl _
-slot-le false left p q = serve-le left p q
-
 module _ (rule : Rule) (js : List Job) (s : List ℕ) where
   slot-length : (b : Bool) (left : List ℕ) (q : ℕ) → length (cond b left (serve left q)) ≡ length left
   unfolding serve
@@ -66,13 +54,6 @@ module _ (rule : Rule) (js : List Job) (s : List ℕ) where
   left-length (suc n) =
       let left = leftBy rule js s n in
       slot-length (eqb (getD s n 0) 0) left (rule n left) ∙ left-length n
-
-  -- the work left of a job never rises
-  pub left-falls : (n m q : ℕ) → getD (leftBy rule js s (n + m)) q 0 ≤ getD (leftBy rule js s n) q 0
-  unfolding leftBy
-  left-falls n zero q = rw add-zero (le-refl _)
-  left-falls n (suc m) q =
-      rw add-suc (le-trans (slot-le (eqb (getD s (n + m) 0) 0) (leftBy rule js s (n + m)) (rule (n + m) (leftBy rule js s (n + m))) q) (left-falls n m q))
 
   module _ (urgent : Job → Bool) (first : UrgentFirst urgent js rule) where
     elsewhere : (n q : ℕ) (left : List ℕ) → q < length js → suc n ≤ (getD js q noJob) .release → q ≢ rule n left

@@ -1,4 +1,5 @@
 pub mod Accepted
+pub mod Arrival
 pub mod Conservation
 pub mod Filled
 pub mod FirstMiss
@@ -6,5 +7,6 @@ pub mod JobRules
 pub mod Next
 pub mod RunLaws
 pub mod Scans
+pub mod Service
 pub mod Slots
 pub mod Walking

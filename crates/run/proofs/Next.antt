@@ -126,11 +126,6 @@ module _ (ks : List Task) (n : ℕ) where
   next-found (j ∷ js) [] q h k = absurd (waits-none n _ k)
   next-found (j ∷ js) (w ∷ left) q h k = step-found j w js left _ refl (next-found js left) q h k
 
-  -- where none is found, none waits
-  pub next-none : (js : List Job) (left : List ℕ) → length js ≤ next ks n js left → (q : ℕ) → q < length js
-      → waits n (getD js q noJob) (getD left q 0) ≡ true → ⊥
-  next-none js left all q h k = omega (arith, next-found js left q h k)
-
   -- the one found waits
   step-waits : (j : Job) (w : ℕ) (js : List Job) (left : List ℕ) (p : ℕ) (b : Bool) → headFirst ks n j w js p ≡ b
       → (p < length js → waits n (getD js p noJob) (getD left p 0) ≡ true)

@@ -3,4 +3,5 @@ pub mod FirstMiss
 pub mod Job
 pub mod Run
 pub mod Scan
+pub mod Service
 pub mod Walk

@@ -1,0 +1,55 @@
+-- The place that `next` finds is the one that the rules serve, and the only one: two jobs that neither goes before are of one task and have
+-- one deadline, so one release, and two jobs of a task lie T apart.
+use Prim.Native.Nat.{ℕ, _<_}
+use mathlib.Core.Bool.{true}
+use mathlib.Core.List.{List}
+use mathlib.Core.Path.{_≡_, ap, sym}
+use lib.ListN.{length, getD}
+use native.Mathlib.Decide.{decLt}
+use native.Mathlib.Nat.{le-antisymm}
+use native.Mathlib.Omega.{arith}
+use Rattle.budget.specs.declared.task.Task.{Task}
+use Rattle.budget.specs.Task.{D, noTask, validTasks}
+use Rattle.budget.proofs.Valid.{valid-at}
+use Rattle.run.specs.Job.{Job, deadline, legalArrival, taskOf}
+use Rattle.run.specs.Run.{noJob}
+use Rattle.run.specs.Service.{OneServed, Serves, SlotServes}
+use Rattle.run.proofs.Arrival.{apart-pair, arrival-at}
+use Rattle.run.proofs.Next.{next-first, next-found, next-most, next-waits, not-before}
+
+pub slot-serves : SlotServes
+slot-serves ks n js left =
+    record {
+      place = next-most ks n js left;
+      waiting = next-waits ks n js left;
+      first = next-first ks n js left;
+      idle = λ e q h k. omega (arith, next-found ks n js left q h k);
+    }
+
+module _ (ks : List Task) (js : List Job) (valid : validTasks ks ≡ true) (legal : legalArrival ks js ≡ true) (n : ℕ) (left : List ℕ) where
+  -- two jobs of one task with one deadline are one
+  not-twice : (p q : ℕ) → p < q → q < length js → (getD js p noJob) .task ≡ (getD js q noJob) .task
+      → deadline ks (getD js p noJob) ≡ deadline ks (getD js q noJob) → ⊥
+  unfolding deadline taskOf
+  not-twice p q h l same due =
+      let v = valid-at ks valid _ (arrival-at ks js legal p (omega arith) .numbered) in
+      let d = ap (λ (k : ℕ). D (getD ks k noTask)) same in
+      omega (arith, apart-pair ks js legal p q h l same, v .works, v .fits, v .within)
+
+  not-earlier : (p q : ℕ) → Serves ks n js left p → Serves ks n js left q → p < q → Dec (q < length js) → ⊥
+  not-earlier p q x y h (yes l) =
+      let a = not-before ks _ _ (x .first q l (y .waiting l)) in
+      let b = not-before ks _ _ (y .first p (omega arith) (x .waiting (omega arith))) in
+      let due = le-antisymm (a .deadlines) (b .deadlines) in
+      not-twice p q h l (le-antisymm (a .tasks (sym due)) (b .tasks due)) due
+  not-earlier p q x y h (no l) =
+      let g = y .place in
+      y .idle (omega arith) p (omega arith) (x .waiting (omega arith))
+
+pub one-served : OneServed
+one-served ks js valid legal n left p q x y = go (decLt p q) (decLt q p)
+  where
+    go : Dec (p < q) → Dec (q < p) → p ≡ q
+    go (yes l) d = absurd (not-earlier ks js valid legal n left p q x y l (decLt q (length js)))
+    go (no l) (yes g) = absurd (not-earlier ks js valid legal n left q p y x g (decLt p (length js)))
+    go (no l) (no g) = omega arith
