@@ -1,5 +1,6 @@
 // Verdict, margin and smallest capacity.
 pub mod answer;
 pub mod capacity;
+pub mod signed;
 pub mod steps;
 pub mod verdict;
