@@ -1,5 +1,6 @@
 pub mod CapacityLaws
 pub mod Instants
+pub mod MarginLaws
 pub mod SearchLaws
 pub mod SignedLaws
 pub mod StepLaws

@@ -1,5 +1,6 @@
 pub mod Capacity
 pub mod Judged
+pub mod Margin
 pub mod Search
 pub mod Signed
 pub mod Steps

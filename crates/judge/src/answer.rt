@@ -20,3 +20,10 @@ pub enum Smallest {
     Found(Units),
     None,
 }
+
+// What measuring a component answers: a refusal, the least margin with its instant, or none for a component without tasks or capacity.
+pub enum Margined {
+    Refused(u16),
+    Least(i32, Time),
+    None,
+}

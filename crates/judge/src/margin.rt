@@ -1,0 +1,74 @@
+// The margin of a component: the least supply minus demand over its step instants, and the first instant that has it.
+use crate::steps::columns_of;
+use crate::steps::pass;
+use budget::interface::Interface;
+use budget::quantity::Time;
+use budget::supply::supply;
+use budget::task::Table;
+ghost use mathlib.Core.Path.{_≡_};
+ghost use Prim.Native.Nat.{_*_, _≤_};
+ghost use lib.IntN.{subℕ};
+ghost use Rattle.budget.specs.Limits.{limit};
+ghost use Rattle.budget.specs.Task.{tasksOf};
+ghost use Rattle.judge.specs.Margin.{Triable, tried, tightAt, tightInstant};
+ghost use Rattle.judge.specs.Verdict.{Scannable};
+
+// The tightest step instant so far, with supply and demand there; instant 0 where there is none yet.
+pub struct Tight {
+    pub at: u32,
+    pub units: u32,
+    pub demand: u32,
+}
+
+// The tightest once this instant has been tried. It is a step instant if demand there exceeds demand before; the first of equals stays.
+fn try_instant(best: Tight, interface: Interface, at: u32, before: u32, demand: u32) -> Tight
+    requires { ⌜ Triable best interface at demand ⌝ }
+    ensures { λ r. ⌜ r ≡ tried best interface at before demand ⌝ }
+{
+    if demand <= before {
+        return best;
+    }
+    let given = supply(interface, Time(at));
+    let units = given.units.0;
+    if best.at == 0 {
+        return Tight { at, units, demand };
+    }
+    if units + best.demand < best.units + demand {
+        return Tight { at, units, demand };
+    }
+    best
+}
+
+// The tightest step instant from 1 to `length`.
+fn tightest(table: Table, interface: Interface, length: u32) -> Tight
+    requires { ⌜ Scannable table interface length ⌝ }
+    ensures { λ r. ⌜ r ≡ tightAt (tasksOf table) interface (tightInstant (tasksOf table) interface length) ⌝ }
+{
+    let columns = columns_of(table);
+    let period = columns.period;
+    let work = columns.work;
+    let mut due = columns.due;
+    let mut demand = 0;
+    let mut at = 1;
+    let mut best = Tight {
+        at: 0,
+        units: 0,
+        demand: 0,
+    };
+    while at <= length {
+        let step = pass(&period, &work, &mut due, table.count, at, demand);
+        best = try_instant(best, interface, at, demand, step.demand);
+        demand = step.demand;
+        at = step.next;
+    }
+    best
+}
+
+// Supply minus demand as a signed number.
+fn difference(units: u32, demand: u32) -> i32
+    requires { ⌜ units ≤ limit ⌝ }
+    requires { ⌜ demand ≤ 128 * limit ⌝ }
+    ensures { λ r. ⌜ r ≡ subℕ units demand ⌝ }
+{
+    units as i32 - demand as i32
+}
