@@ -5,22 +5,24 @@ use mathlib.Core.Logic.{_⊎_, inl, inr, ⊎-elim}
 use mathlib.Core.Bool.{Bool, true, false, cond}
 use mathlib.Core.List.{List}
 use lib.Dec.{ltb, eqb}
-use lib.ListN.{length}
+use lib.ListN.{length, length-take}
 use borrow.Author.Tests.{lt-ltb, le-ltb, ltb-true, ltb-false, eqb-true, eqb-false}
 use native.Mathlib.Decide.{decLe}
 use native.Mathlib.Nat.{not-suc-le-zero, le-of-eq, le-of-suc-le-suc, le-trans, mul-le-mul, eq-or-lt-of-le, not-le-of-lt}
 use native.Mathlib.Omega.{arith}
 use Rattle.budget.specs.declared.interface.Interface.{Interface}
+use Rattle.budget.specs.declared.task.Table.{Table}
 use Rattle.budget.specs.declared.task.Task.{Task}
 use Rattle.budget.specs.Demand.{demand}
 use Rattle.budget.specs.Limits.{limit, most-tasks}
 use Rattle.budget.specs.Supply.{supply}
-use Rattle.budget.specs.Task.{validTasks}
+use Rattle.budget.specs.Task.{tasksOf, validTasks}
 use Rattle.budget.proofs.DemandLaws.{demand-zero, demand-bound}
 use Rattle.budget.proofs.SupplyLaws.{supply-zero, supply-le-time}
-use Rattle.budget.proofs.Valid.{ValidInterface}
+use Rattle.budget.proofs.Valid.{ValidInterface, valid-interface}
 use Rattle.judge.specs.declared.margin.Tight.{Tight}
 use Rattle.judge.specs.Margin.{Step, Tightest, tightAt, tried, tightInstant}
+use Rattle.judge.specs.Verdict.{Scannable}
 
 -- what the walk has shown before `at`: the tightest of all instants up to any from the last one passed on
 pub record Best (ks : List Task) (i : Interface) (n at : ℕ) (best : Tight) : Type 0 where
@@ -206,3 +208,15 @@ module _ (ks : List Task) (i : Interface) where
         le-trans (le-of-eq (ap (λ (x : Tight). x .demand) is)) (demand-small v few (tightInstant ks i (b .last)) m),
         le-trans (le-of-eq (ap (λ (x : Tight). x .units) is)) (le-trans (supply-le-time i w (tightInstant ks i (b .last))) m),
       )
+
+-- the numbers of the tightest instant of a table's tasks are small enough to be read as signed
+pub tight-small : (table : Table) (i : Interface) (n : ℕ) (best : Tight) → Scannable table i n → best ≡ tightAt (tasksOf table) i (tightInstant (tasksOf table) i n)
+    → (best .units ≤ limit) × (best .demand ≤ most-tasks * (2 * limit))
+unfolding tightAt tasksOf
+tight-small table i n best s is =
+    let ks = tasksOf table in
+    let m : tightInstant ks i n ≤ limit = le-trans (tight-within ks i n) (s .bounded) in
+    let few : length ks ≤ most-tasks = omega (arith, length-take (table .count) (table .tasks), s .few) in (
+      le-trans (le-of-eq (ap (λ (x : Tight). x .units) is)) (le-trans (supply-le-time i (valid-interface i (s .interface)) (tightInstant ks i n)) m),
+      le-trans (le-of-eq (ap (λ (x : Tight). x .demand) is)) (demand-small ks i (s .tasks) few (tightInstant ks i n) m),
+    )

@@ -4,17 +4,24 @@ use Prim.Native.Nat.{ℕ, zero, suc, _+_, _*_, _≤_, _<_}
 use mathlib.Core.Bool.{Bool, true, false, cond}
 use mathlib.Core.List.{List}
 use mathlib.Core.Path.{_≡_}
-use lib.Dec.{ltb, eqb}
-use lib.IntN.{ℤ, subℕ}
+use lib.Dec.{leb, ltb, eqb}
+use lib.IntN.{ℤ, pos, subℕ}
+use Rattle.budget.specs.declared.component.Capacity.{Capacity}
+use Rattle.budget.specs.declared.component.Capacity.the-variants.{Stated, Asked}
+use Rattle.budget.specs.declared.component.Component.{Component}
 use Rattle.budget.specs.declared.interface.Interface.{Interface}
 use Rattle.budget.specs.declared.task.Task.{Task}
+use Rattle.budget.specs.Component.{interfaceAt, commonPeriodOf, componentRefusal}
 use Rattle.budget.specs.Demand.{demand}
 use Rattle.budget.specs.Interface.{validInterface}
 use Rattle.budget.specs.Limits.{limit, most-tasks}
+use Rattle.budget.specs.Refusal as refusal
 use Rattle.budget.specs.Supply.{supply}
+use Rattle.budget.specs.Task.{tasksOf}
 use Rattle.judge.specs.declared.answer.Margined.{Margined}
 use Rattle.judge.specs.declared.answer.Margined.the-variants as Variant
 use Rattle.judge.specs.declared.margin.Tight.{Tight}
+use Rattle.judge.specs.Capacity.{capacityOf}
 
 -- p + 1 is a step instant: demand there exceeds demand at p
 abbrev pub Step : List Task → ℕ → Type 0
@@ -56,6 +63,29 @@ unfoldable pub marginOn : List Task → Interface → ℕ → Margined
 marginOn ks i n =
     let t = tightInstant ks i n in
     cond (eqb t 0) Variant.None (Variant.Least (marginAt ks i t) (record { 0 = t }))
+
+-- "A component with no tasks, or answered none, has no margin; an asked one is measured at the capacity found"
+unfoldable pub marginedAt : Component → Capacity → Margined
+marginedAt c (Stated u) = marginOn (tasksOf (c .table)) (interfaceAt c (u .0)) (commonPeriodOf c)
+marginedAt c Asked =
+    cond (leb (capacityOf c) (c .deadline .0))
+    (marginOn (tasksOf (c .table)) (interfaceAt c (capacityOf c)) (commonPeriodOf c))
+    Variant.None
+
+-- what the operation answers: the refusal, the least margin and its instant, or none
+unfoldable pub marginAnswer : Component → Margined
+marginAnswer c = cond (eqb (componentRefusal c) refusal.none) (marginedAt c (c .capacity)) (Variant.Refused (componentRefusal c))
+
+-- the margin and its instant as numbers; "margin instant 0 says no margin"
+abbrev pub marginOf : Margined → ℤ
+marginOf (Variant.Refused n) = pos 0
+marginOf (Variant.Least m t) = m
+marginOf Variant.None = pos 0
+
+abbrev pub marginInstantOf : Margined → ℕ
+marginInstantOf (Variant.Refused n) = 0
+marginInstantOf (Variant.Least m t) = t .0
+marginInstantOf Variant.None = 0
 
 -- what an instant is tried with: numbers in their ranges
 pub record Triable (best : Tight) (i : Interface) (at asked : ℕ) : Type 0 where

@@ -1,16 +1,25 @@
 // The margin of a component: the least supply minus demand over its step instants, and the first instant that has it.
+use crate::answer::Margined;
+use crate::capacity::least_capacity;
 use crate::steps::columns_of;
 use crate::steps::pass;
+use budget::common_period::common_period;
+use budget::component::Capacity;
+use budget::component::Component;
+use budget::component::interface_of;
 use budget::interface::Interface;
 use budget::quantity::Time;
+use budget::quantity::Units;
+use budget::refusal;
 use budget::supply::supply;
 use budget::task::Table;
 ghost use mathlib.Core.Path.{_≡_};
 ghost use Prim.Native.Nat.{_*_, _≤_};
 ghost use lib.IntN.{subℕ};
+ghost use Rattle.budget.specs.Component.{interfaceAt, commonPeriodOf};
 ghost use Rattle.budget.specs.Limits.{limit};
 ghost use Rattle.budget.specs.Task.{tasksOf};
-ghost use Rattle.judge.specs.Margin.{Triable, tried, tightAt, tightInstant};
+ghost use Rattle.judge.specs.Margin.{Triable, marginAnswer, marginOn, marginedAt, tightAt, tightInstant, tried};
 ghost use Rattle.judge.specs.Verdict.{Scannable};
 
 // The tightest step instant so far, with supply and demand there; instant 0 where there is none yet.
@@ -71,4 +80,57 @@ fn difference(units: u32, demand: u32) -> i32
     ensures { λ r. ⌜ r ≡ subℕ units demand ⌝ }
 {
     units as i32 - demand as i32
+}
+
+// The least margin from 1 to `length` and its instant, or none where there is no step instant.
+fn measured(table: Table, interface: Interface, length: u32) -> Margined
+    requires { ⌜ Scannable table interface length ⌝ }
+    ensures { λ r. ⌜ r ≡ marginOn (tasksOf table) interface length ⌝ }
+{
+    let best = tightest(table, interface, length);
+    let at = best.at;
+    if at == 0 {
+        return Margined::None;
+    }
+    Margined::Least(difference(best.units, best.demand), Time(at))
+}
+
+// The margin at the smallest capacity that is accepted, or none.
+fn measured_asked(component: Component, length: u32) -> Margined
+    requires { ⌜ Scannable (component .table) (interfaceAt component 0) length ⌝ }
+    requires { ⌜ length ≡ commonPeriodOf component ⌝ }
+    ensures { λ r. ⌜ r ≡ marginedAt component Capacity.Asked ⌝ }
+{
+    let table = component.table;
+    let period = component.period;
+    let deadline = component.deadline;
+    let found = least_capacity(table, period, deadline, length);
+    let last = deadline.0;
+    if last < found {
+        return Margined::None;
+    }
+    let interface = Interface {
+        period,
+        capacity: Units(found),
+        deadline,
+    };
+    measured(table, interface, length)
+}
+
+// The margin of a component at its capacity stated or found.
+pub fn margin(component: Component) -> Margined
+    ensures { λ r. ⌜ r ≡ marginAnswer component ⌝ }
+{
+    let whole = common_period(component);
+    let refused = whole.refusal;
+    if refused != refusal::NONE {
+        return Margined::Refused(refused);
+    }
+    let length = whole.length.0;
+    let table = component.table;
+    let capacity = component.capacity;
+    match capacity {
+        Capacity::Stated(_) => measured(table, interface_of(component), length),
+        Capacity::Asked => measured_asked(component, length),
+    }
 }
