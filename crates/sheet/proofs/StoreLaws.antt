@@ -1,5 +1,5 @@
 -- Laws of storing bytes from a place on, and of the bytes of tasks and components. Stores go one after the other, so that what is still to be stored, stored onto the buffer as it is now, gives the buffer as it must end.
-use Prim.Native.Nat.{ℕ, zero, suc, _+_, _-_, _*_, _≤_, _<_, zero-le}
+use Prim.Native.Nat.{ℕ, suc, _+_, _-_, _*_, _≤_, _<_, zero-le}
 use mathlib.Core.Path.{_≡_, refl, sym, ap, _∙_}
 use mathlib.Core.List.{List, [], _∷_, _++_, append-nil}
 use native.Mathlib.Nat.{add-suc, suc-add, add-zero, zero-add, le-of-eq}
@@ -98,6 +98,10 @@ pub head-length : (number period : ℕ) (c : Capacity) (deadline : ℕ) → leng
 unfolding headBytes statedBytes askedBytes encode headSize
 head-length number period (Stated u) deadline = refl
 head-length number period Asked deadline = refl
+
+pub end-length : (count : ℕ) → length (endBytes count) ≡ 6
+unfolding endBytes encode
+end-length count = refl
 
 pub most-head : (c : Capacity) → headSize c ≤ 18
 unfolding headSize

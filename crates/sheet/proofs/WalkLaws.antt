@@ -1,7 +1,7 @@
 -- Laws of the walk: a step goes on only by moving on, and the loop's invariant is that the answer from the start is the answer from here.
 use Prim.Native.Nat.{ℕ, zero, suc, _+_, _-_, _≤_, _<_, zero-le}
 use mathlib.Core.Path.{_≡_, refl, sym, ap, ap₂, _∙_}
-use mathlib.Core.Bool.{Bool, true, false, cond, false≢true}
+use mathlib.Core.Bool.{Bool, true, false, false≢true}
 use mathlib.Core.List.{List}
 use native.Mathlib.Omega.{arith}
 use lib.ListN.{length, take, drop, length-drop}
@@ -10,10 +10,8 @@ use native.Mathlib.Nat.{le-of-eq}
 use lib.Dec.{leb, ltb, eqb}
 use Rattle.budget.specs.declared.component.Capacity.{Capacity}
 use Rattle.budget.specs.declared.component.Capacity.the-variants.{Stated, Asked}
-use Rattle.budget.specs.declared.task.Task.{Task}
 use Rattle.sheet.specs.declared.check.Span.{Span}
 use Rattle.sheet.specs.declared.check.State.{State}
-use Rattle.sheet.specs.declared.layout.Head.{Head}
 use Rattle.sheet.specs.declared.layout.Record.{Record}
 use Rattle.sheet.specs.declared.layout.Record.the-variants.{ComponentRecord, TaskRecord, EndRecord, NoRecord}
 use Rattle.sheet.specs.Layout.{headSize, sizeOf, recordOf}

@@ -1,6 +1,6 @@
 -- Which sheets are accepted, and how the others are refused (01, "The sheet" and "Order"): "14; then record by record .. then component 7, 5, 9; task 4, 6, 9; end 8".
 use Prim.Native.Nat.{ℕ, zero, suc, _+_, _-_}
-use mathlib.Core.Bool.{Bool, true, false, cond}
+use mathlib.Core.Bool.{true, false, cond}
 use mathlib.Core.List.{List}
 use lib.ListN.{length, drop}
 use lib.Dec.{leb, ltb, eqb}

@@ -3,3 +3,5 @@ pub mod Layout
 pub mod Check
 pub mod Part
 pub mod Writing
+pub mod Reading
+pub mod RoundTrip

@@ -1,7 +1,7 @@
 -- "the part of the caller's sheet that holds one component's records, chosen by its place in the sheet, from 0"
 use Prim.Native.Nat.{ℕ, zero, suc, _-_, _≤_}
-use mathlib.Core.Bool.{Bool, true, false, cond}
-use mathlib.Core.List.{List, []}
+use mathlib.Core.Bool.{true, false, cond}
+use mathlib.Core.List.{List}
 use mathlib.Core.Path.{_≡_}
 use lib.ListN.{length, take, drop}
 use lib.Dec.{leb, ltb, eqb}
@@ -10,6 +10,7 @@ use Rattle.sheet.specs.declared.check.Checked.{Checked}
 use Rattle.sheet.specs.declared.check.Span.{Span}
 use Rattle.sheet.specs.declared.check.State.{State}
 use Rattle.sheet.specs.declared.check.Walked.{Walked}
+use Rattle.sheet.specs.declared.part.Located.{Located}
 use Rattle.sheet.specs.Check.{check, start, step, walk}
 
 -- what a step from one state to the next tells of the component at place k: it has not begun, it begins here, it goes on to here, or it is past
@@ -30,19 +31,26 @@ noSpan = record { from = 0; to = 0 }
 unfoldable pub spanOf : List ℕ → ℕ → Span
 spanOf s k = noted (suc (length s)) s k start noSpan
 
+-- "sheet, 15"
+unfoldable pub chosen : Checked → ℕ → Checked
+chosen c k =
+    cond (eqb (c .refusal) refusal.none)
+    (cond (ltb k (c .count)) c (record { refusal = refusal.place; place = 0; count = 0 }))
+    c
+
+-- nowhere, where refused
+unfoldable pub spanFor : Checked → Span → Span
+spanFor c span = cond (eqb (c .refusal) refusal.none) span noSpan
+
 -- "Handing back a part or reading one component: sheet, 15"
 unfoldable pub partCheck : List ℕ → ℕ → Checked
-partCheck s k =
-    cond (eqb (check s .refusal) refusal.none)
-    (cond (ltb k (check s .count)) (check s) (record { refusal = refusal.place; place = 0; count = 0 }))
-    (check s)
+partCheck s k = chosen (check s) k
 
 -- from the component's record to its last task, or nothing where refused
 unfoldable pub partOf : List ℕ → ℕ → List ℕ
 partOf s k =
-    cond (eqb (partCheck s k .refusal) refusal.none)
-    (take (spanOf s k .to - spanOf s k .from) (drop (spanOf s k .from) s))
-    []
+    let span = spanFor (partCheck s k) (spanOf s k) in
+    take (span .to - span .from) (drop (span .from) s)
 
 -- what the one walk over a sheet finds
 pub record Found (s : List ℕ) (k : ℕ) (w : Walked) : Type 0 where
@@ -50,3 +58,10 @@ pub record Found (s : List ℕ) (k : ℕ) (w : Walked) : Type 0 where
   pub span : w .span ≡ spanOf s k
   pub order : w .span .from ≤ w .span .to
   pub within : w .span .to ≤ length s
+
+-- what is found of the component at one place
+pub record Placed (s : List ℕ) (k : ℕ) (l : Located) : Type 0 where
+  pub checked : l .checked ≡ partCheck s k
+  pub span : l .span ≡ spanFor (partCheck s k) (spanOf s k)
+  pub order : l .span .from ≤ l .span .to
+  pub within : l .span .to ≤ length s

@@ -257,7 +257,7 @@ pub fn walk(sheet: &[u8], wanted: usize) -> Walked
     Walked { state, span }
 }
 
-fn checked_of(state: State) -> Checked
+pub fn checked_of(state: State) -> Checked
     ensures { λ r. ⌜ r ≡ checkedOf state ⌝ }
 {
     let number = state.refusal;

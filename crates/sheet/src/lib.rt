@@ -2,4 +2,6 @@
 pub mod check;
 pub mod field;
 pub mod layout;
+pub mod part;
+pub mod read;
 pub mod write;
