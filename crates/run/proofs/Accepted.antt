@@ -1,16 +1,16 @@
 -- What the walk may rely on where nothing is refused: each rule that its refusal goes down, as facts about the numbers.
 use Prim.Native.Nat.{ℕ, zero, suc, _+_, _^_, _≤_, _<_}
-use native.Mathlib.Nat.{le-of-suc-le-suc, not-suc-le-zero, le-trans, le-of-eq}
+use native.Mathlib.Nat.{le-of-suc-le-suc, not-suc-le-zero}
 use native.Mathlib.Omega.{arith}
-use mathlib.Core.Path.{_≡_, refl, sym, ap, subst, _∙_}
-use mathlib.Core.Bool.{Bool, true, false, cond, _&&_, true≢false}
-use mathlib.Core.List.{List, [], _∷_, map}
+use mathlib.Core.Path.{_≡_, refl, ap}
+use mathlib.Core.Bool.{Bool, true, false, cond}
+use mathlib.Core.List.{List, [], _∷_}
 use lib.ListN.{length, getD, length-take}
 use lib.Dec.{leb, ltb, eqb}
 use borrow.Author.Tests.{ltb-true, ltb-false, leb-true, eqb-true, eqb-false, eq-eqb}
 use Rattle.budget.specs.declared.task.Table.{Table}
 use Rattle.budget.specs.declared.task.Task.{Task}
-use Rattle.budget.specs.Limits.{most-tasks, limit}
+use Rattle.budget.specs.Limits.{most-tasks}
 use Rattle.budget.specs.Refusal as refusal
 use Rattle.budget.specs.Task.{D, noTask, validTasks, tasksOf, tableRefusal}
 use Rattle.budget.proofs.Valid.{both, valid-at}
@@ -19,7 +19,7 @@ use Rattle.trace.specs.Legal.{zerosAndOnes}
 use Rattle.run.specs.Job.{Job, taskOf, validJob, beforeAll, legalArrival}
 use Rattle.run.specs.Run.{noJob, leftAt}
 use Rattle.run.specs.Walk.{most-jobs, jobsOf, releasedBefore, validJobs, validTrace, walkRefusal, stop, walkedTo, walkAnswer, leftAfter}
-use Rattle.run.proofs.JobRules.{Lists, lists, task-at, tasks-length}
+use Rattle.run.proofs.JobRules.{lists, task-at, tasks-length}
 use Rattle.run.proofs.Scans.{column, column-length}
 
 -- a row of refusals with none: the first is none, and so are the others

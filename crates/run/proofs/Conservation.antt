@@ -3,25 +3,24 @@ use Prim.Native.Nat.{ℕ, zero, suc, _+_, _-_, _≤_, _<_}
 use native.Mathlib.Nat.{not-suc-le-zero, le-of-suc-le-suc, zero-add}
 use native.Mathlib.Omega.{arith}
 use mathlib.Core.Path.{_≡_, refl, sym, ap, _∙_}
-use mathlib.Core.Bool.{Bool, true, false, cond, _&&_}
+use mathlib.Core.Bool.{Bool, true, false, cond}
 use mathlib.Core.Logic.{_≢_}
-use mathlib.Core.List.{List, [], _∷_, map}
-use lib.ListN.{length, getD, take, drop}
+use mathlib.Core.List.{List, [], _∷_}
+use lib.ListN.{length, getD, take}
 use lib.Seq.{set-out}
 use lib.Dec.{leb, ltb, eqb}
 use borrow.Author.Tests.{leb-true, ltb-true, ltb-false, eqb-true, eqb-false}
-use Rattle.budget.specs.declared.task.Table.{Table}
 use Rattle.budget.specs.declared.task.Task.{Task}
 use Rattle.budget.specs.Task.{tasksOf}
 use Rattle.budget.proofs.Valid.{both}
 use Rattle.trace.specs.Legal.{supplied, zerosAndOnes}
 use Rattle.trace.specs.Units.{units}
 use Rattle.trace.proofs.Units.{supplied-part}
-use Rattle.run.specs.Conservation.{total, SlotsAreServedOrIdle, WorkIsServedOrLeft, Conserved, WalkConserves}
+use Rattle.run.specs.Conservation.{total, SlotsAreServedOrIdle, WorkIsServedOrLeft, WalkConserves}
 use Rattle.run.specs.Job.{Job}
-use Rattle.run.specs.Run.{noJob, waits, next, serve, slot, leftAt}
-use Rattle.run.specs.Walk.{jobsOf, servedIn, idleIn, servedBefore, idleBefore, stop, validTrace, walkedTo, walkRefusal, walkAnswer, leftAfter}
-use Rattle.run.proofs.Accepted.{Accepted, accepted, answer-accepted, left-accepted}
+use Rattle.run.specs.Run.{waits, next, serve, slot, leftAt}
+use Rattle.run.specs.Walk.{jobsOf, servedIn, idleIn, servedBefore, idleBefore, stop, validTrace, walkedTo}
+use Rattle.run.proofs.Accepted.{accepted, answer-accepted, left-accepted}
 use Rattle.run.proofs.JobRules.{lists}
 use Rattle.run.proofs.Next.{next-waits}
 use Rattle.run.proofs.RunLaws.{left-length}

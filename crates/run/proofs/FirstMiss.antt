@@ -1,22 +1,21 @@
 -- The walk's miss is the first miss of the run: the lowest late task is a late job's and no late job's is lower, and the stop is the first
 -- instant at which a job is late.
 use Prim.Native.Nat.{ℕ, zero, suc, _+_, _≤_, _<_, suc-le-suc, zero-le}
-use native.Mathlib.Nat.{zero-add, not-suc-le-zero, le-of-suc-le-suc, le-refl, le-trans, eq-or-lt-of-le}
+use native.Mathlib.Nat.{zero-add, not-suc-le-zero, le-of-suc-le-suc, le-refl, eq-or-lt-of-le}
 use native.Mathlib.Omega.{arith}
-use mathlib.Core.Path.{_≡_, refl, sym, ap, subst, _∙_}
-use mathlib.Core.Logic.{_⊎_, inl, inr, ⊎-elim}
-use mathlib.Core.Bool.{Bool, true, false, cond, _&&_, false≢true, true≢false}
+use mathlib.Core.Path.{_≡_, refl, sym, subst, _∙_}
+use mathlib.Core.Logic.{_⊎_, ⊎-elim}
+use mathlib.Core.Bool.{Bool, true, false, cond, _&&_, false≢true}
 use mathlib.Core.List.{List, [], _∷_}
 use lib.ListN.{length, getD}
 use lib.Dec.{ltb, eqb}
-use borrow.Author.Tests.{ltb-true, ltb-false, lt-ltb, le-ltb, eqb-true, eq-eqb}
-use Rattle.budget.specs.declared.task.Table.{Table}
+use borrow.Author.Tests.{ltb-true, ltb-false, lt-ltb, eqb-true, eq-eqb}
 use Rattle.budget.specs.declared.task.Task.{Task}
 use Rattle.budget.specs.Limits.{most-tasks}
 use Rattle.budget.specs.Task.{tasksOf}
 use Rattle.budget.proofs.Valid.{both, and-true}
 use Rattle.run.specs.declared.walk.Miss.the-variants.{None, At}
-use Rattle.run.specs.FirstMiss.{FirstMiss, NoMiss, Says, WalkTellsFirstMiss}
+use Rattle.run.specs.FirstMiss.{Says, WalkTellsFirstMiss}
 use Rattle.run.specs.Job.{Job, deadline}
 use Rattle.run.specs.Run.{noJob, leftAt, MissAt}
 use Rattle.run.proofs.Accepted.{accepted, answer-accepted, task-few}

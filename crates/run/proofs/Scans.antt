@@ -1,7 +1,7 @@
 -- A scan of the jobs from the right end: what it has found behind place k, with the job at k, gives what it has found from k on.
 -- The jobs are read through columns, the lists of their deadlines, tasks and releases.
 use Prim.Native.Nat.{ℕ, zero, suc, _+_, _≤_, _<_}
-use native.Mathlib.Nat.{le-of-suc-le-suc, not-suc-le-zero, suc-add, add-suc, add-zero}
+use native.Mathlib.Nat.{le-of-suc-le-suc, not-suc-le-zero, add-zero}
 use native.Mathlib.Omega.{arith}
 use mathlib.Core.Path.{_≡_, refl, sym, ap, subst, _∙_}
 use borrow.Author.Tests.{ltb-true, leb-true, leb-false, le-leb, lt-leb}

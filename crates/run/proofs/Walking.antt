@@ -3,21 +3,20 @@ use Prim.Native.Nat.{ℕ, zero, suc, _+_, _-_, _≤_, _<_}
 use native.Mathlib.Nat.{sub-zero, sub-self}
 use native.Mathlib.Numerals.{add-one}
 use native.Mathlib.Omega.{arith}
-use mathlib.Core.Path.{_≡_, refl, sym, ap, ap₂, subst, _∙_}
-use mathlib.Core.Bool.{Bool, true, false}
+use mathlib.Core.Path.{_≡_, refl, sym, ap, _∙_}
+use mathlib.Core.Bool.{true, false}
 use mathlib.Core.Logic.{_⊎_, ⊎-elim}
 use mathlib.Core.List.{List, map}
 use lib.ListN.{length, getD}
-use lib.Dec.{ltb}
 use borrow.Author.Tests.{lt-ltb, le-ltb}
 use Rattle.budget.specs.declared.task.Task.{Task}
 use Rattle.budget.specs.Limits.{most-tasks}
 use Rattle.run.specs.declared.walk.Miss.{Miss}
 use Rattle.run.specs.declared.walk.Walked.{Walked}
 use Rattle.run.specs.Job.{Job}
-use Rattle.run.specs.Run.{leftAt, slot}
+use Rattle.run.specs.Run.{leftAt}
 use Rattle.run.specs.Scan.{Slotted}
-use Rattle.run.specs.Walk.{lateTask, missed, missOf, stopFrom, stop, servedIn, idleIn, servedBefore, idleBefore, walkedTo}
+use Rattle.run.specs.Walk.{lateTask, missed, missOf, stopFrom, stop, servedBefore, idleBefore, walkedTo}
 
 pub record Walking (ks : List Task) (js : List Job) (s : List ℕ) (t : ℕ) (left : List ℕ) (served idle : ℕ) : Type 0 where
   pub leaves : left ≡ leftAt ks js s t

@@ -1,6 +1,6 @@
 -- "Supplied slots up to the stop equal served plus idle; total work equals served plus all work left": of what the walk answers, for
 -- every call that it takes, and behind it of every run at every instant.
-use Prim.Native.Nat.{ℕ, _+_, _≤_}
+use Prim.Native.Nat.{ℕ, _+_}
 use mathlib.Core.Bool.{true}
 use mathlib.Core.List.{List, [], _∷_, map}
 use mathlib.Core.Path.{_≡_}

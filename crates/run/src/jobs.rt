@@ -12,7 +12,7 @@ ghost use Rattle.budget.specs.Task.{T, D, noTask, tasksOf};
 ghost use Rattle.run.specs.Job.{Job, taskOf, deadline, validJob, beforeAll, legalArrival};
 ghost use Rattle.run.specs.Run.{noJob};
 ghost use Rattle.run.specs.Scan.{follows};
-ghost use Rattle.run.specs.Walk.{jobsOf, releasedBefore, validJobs};
+ghost use Rattle.run.specs.Walk.{releasedBefore, validJobs};
 
 // The most jobs that a walk takes.
 pub const MOST: usize = 1_024;

@@ -1,5 +1,5 @@
 // One slot of the run: which job is served, and which is late. The jobs are columns of numbers: deadlines, tasks, releases, work left.
-ghost use Prim.Native.Nat.{ℕ, _+_, _≤_, _<_};
+ghost use Prim.Native.Nat.{_+_, _≤_, _<_};
 ghost use mathlib.Core.Bool.{cond, _&&_};
 ghost use mathlib.Core.List.{List, map};
 ghost use mathlib.Core.Path.{_≡_};

@@ -12,7 +12,7 @@ use budget::task::Table;
 use budget::task::check_table;
 use trace::legal::LONGEST;
 use trace::legal::zeros_and_ones;
-ghost use Prim.Native.Nat.{ℕ, _≤_};
+ghost use Prim.Native.Nat.{_≤_};
 ghost use mathlib.Core.List.{List, map};
 ghost use mathlib.Core.Path.{_≡_};
 ghost use lib.ListN.{length};

@@ -1,9 +1,8 @@
+-- Releases of one task are apart as defined; the sum of a release and a period fits a u64.
 use Rattle.budget.proofs.Tests.{tests}
 use borrow.Author.Needs.{needs}
 use Rattle.run.proofs.jobs.apart.Statement.{statement}
 use Rattle.run.proofs.jobs.apart.Tie as tie
-use Rattle.run.proofs.jobs.apart.Reads as reads
-use Rattle.run.proofs.jobs.apart.Lts as lts
 
 returns : tie.Need-returns
 returns c = search tests

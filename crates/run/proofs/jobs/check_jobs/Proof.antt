@@ -1,3 +1,4 @@
+-- The job lists keep the rules as defined: each return is the definition at the tests that were passed before it.
 use denote.Ref.{now}
 use borrow.Author.Tests.{eq-eqb, le-leb, not-true, not-false}
 use Rattle.run.proofs.JobRules.{lists}
@@ -6,10 +7,6 @@ use Rattle.run.specs.Walk.{validJobs}
 use borrow.Author.Needs.{needs}
 use Rattle.run.proofs.jobs.check_jobs.Statement.{statement}
 use Rattle.run.proofs.jobs.check_jobs.Tie as tie
-use Rattle.run.proofs.jobs.check_jobs.Reads as reads
-use Rattle.run.proofs.jobs.check_jobs.Lts as lts
-use Rattle.run.proofs.jobs.legal_jobs.Reads as legal-jobs-reads
-use Rattle.run.proofs.jobs.released_before.Reads as released-before-reads
 
 returns : tie.Need-returns
 unfolding validJobs

@@ -1,5 +1,6 @@
+-- Each job's deadline is stored at its place. The loop's invariant: every place below i has its job's deadline.
 use Prim.Native.Nat.{ℕ, _+_, _-_, _^_, _≤_, _<_}
-use mathlib.Core.Path.{_≡_, refl, sym, _∙_}
+use mathlib.Core.Path.{_≡_, sym}
 use lib.ListN.{length, getD}
 use denote.Ref.{now}
 use native.Mathlib.Nat.{not-suc-le-zero, le-trans, le-of-eq}
@@ -7,13 +8,11 @@ use native.Mathlib.Omega.{arith}
 use borrow.Author.Needs.{needs}
 use Rattle.budget.specs.Limits.{most-tasks}
 use Rattle.budget.proofs.Places.{length-mapped}
-use Rattle.budget.specs.Task.{D, noTask, tasksOf}
+use Rattle.budget.specs.Task.{D, noTask}
 use Rattle.run.proofs.Filled.{filled}
 use Rattle.run.proofs.JobRules.{due-column}
 use Rattle.run.proofs.jobs.deadlines.Statement.{statement}
 use Rattle.run.proofs.jobs.deadlines.Tie as tie
-use Rattle.run.proofs.jobs.deadlines.Reads as reads
-use Rattle.run.proofs.jobs.deadlines.Lts as lts
 
 abbrev Inv-loop : tie.InvT-loop
 Inv-loop tasks releases due₀ all i₀ due i = (length due ≡ length due₀)

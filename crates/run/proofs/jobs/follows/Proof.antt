@@ -1,11 +1,9 @@
+-- A job and a later one are in order and apart as defined, by the comparisons that lead to each return.
 use Rattle.budget.proofs.Tests.{tests}
 use Rattle.run.specs.Scan.{follows}
 use borrow.Author.Needs.{needs}
 use Rattle.run.proofs.jobs.follows.Statement.{statement}
 use Rattle.run.proofs.jobs.follows.Tie as tie
-use Rattle.run.proofs.jobs.follows.Reads as reads
-use Rattle.run.proofs.jobs.follows.Lts as lts
-use Rattle.run.proofs.jobs.apart.Reads as apart-reads
 
 apart-requires : tie.Need-apart-requires
 apart-requires c κs = search needs

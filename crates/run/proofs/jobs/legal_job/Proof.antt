@@ -1,7 +1,8 @@
-use Prim.Native.Nat.{ℕ, _≤_, _<_}
+-- A job keeps its own rules and goes before the later ones as defined. Its task is read from the table, whose count stands within it.
+use Prim.Native.Nat.{_≤_}
 use mathlib.Core.Bool.{_&&_}
 use mathlib.Core.List.{List, map}
-use mathlib.Core.Path.{_≡_, sym, ap, _∙_}
+use mathlib.Core.Path.{_≡_, sym, ap}
 use lib.Dec.{leb, ltb}
 use lib.ListN.{length, getD}
 use denote.Ref.{now}
@@ -11,16 +12,13 @@ use borrow.Author.Tests.{lt-ltb, le-ltb, le-leb, lt-leb}
 use Rattle.budget.specs.Limits.{most-tasks}
 use Rattle.budget.specs.Task.{T, C, noTask, tasksOf}
 use Rattle.budget.proofs.Places.{length-mapped}
-use Rattle.run.specs.Job.{Job, validJob, taskOf}
+use Rattle.run.specs.Job.{Job, validJob}
 use Rattle.run.specs.Run.{noJob}
 use Rattle.run.proofs.JobRules.{valid-at, task-at}
 use Rattle.run.proofs.Scans.{column-length}
 use borrow.Author.Needs.{needs}
 use Rattle.run.proofs.jobs.legal_job.Statement.{statement}
 use Rattle.run.proofs.jobs.legal_job.Tie as tie
-use Rattle.run.proofs.jobs.legal_job.Reads as reads
-use Rattle.run.proofs.jobs.legal_job.Lts as lts
-use Rattle.run.proofs.jobs.spaced.Reads as spaced-reads
 
 -- every place of the count stands in the table
 room : (s : tie.Start) → s .args .table .count ≤ length (s .args .table .tasks)

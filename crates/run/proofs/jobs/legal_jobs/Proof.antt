@@ -1,8 +1,8 @@
-use Prim.Native.Nat.{ℕ, _+_, _-_, _≤_}
+-- The jobs are a legal arrival as defined. The loop's invariant: what is left to check from place i on decides for all.
+use Prim.Native.Nat.{_-_, _≤_}
 use mathlib.Core.List.{List, map}
 use mathlib.Core.Path.{_≡_, refl, sym, _∙_}
 use lib.ListN.{length, drop}
-use denote.Ref.{now}
 use borrow.Author.Needs.{needs}
 use borrow.Author.Tests.{not-true, not-false}
 use native.Mathlib.Omega.{arith}
@@ -12,9 +12,6 @@ use Rattle.run.proofs.JobRules.{legal-from, legal-end}
 use Rattle.run.proofs.Scans.{column-length}
 use Rattle.run.proofs.jobs.legal_jobs.Statement.{statement}
 use Rattle.run.proofs.jobs.legal_jobs.Tie as tie
-use Rattle.run.proofs.jobs.legal_jobs.Reads as reads
-use Rattle.run.proofs.jobs.legal_jobs.Lts as lts
-use Rattle.run.proofs.jobs.legal_job.Reads as legal-job-reads
 
 abbrev Inv-loop : tie.InvT-loop
 Inv-loop table tasks releases works i₀ i = (i ≤ length tasks)

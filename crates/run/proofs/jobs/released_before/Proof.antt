@@ -1,3 +1,4 @@
+-- The jobs are released before the trace ends as defined. The loop's invariant: what is left to check from place i on decides for all.
 use Prim.Native.Nat.{_-_, _≤_}
 use mathlib.Core.Path.{_≡_, refl, sym, _∙_}
 use lib.ListN.{length, drop}
@@ -9,8 +10,6 @@ use Rattle.run.specs.Walk.{releasedBefore}
 use Rattle.run.proofs.JobRules.{released-from, released-end}
 use Rattle.run.proofs.jobs.released_before.Statement.{statement}
 use Rattle.run.proofs.jobs.released_before.Tie as tie
-use Rattle.run.proofs.jobs.released_before.Reads as reads
-use Rattle.run.proofs.jobs.released_before.Lts as lts
 
 abbrev Inv-loop : tie.InvT-loop
 Inv-loop releases end i₀ i = (i ≤ length releases) × (releasedBefore end releases ≡ releasedBefore end (drop i releases))

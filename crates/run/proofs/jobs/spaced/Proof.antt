@@ -1,6 +1,7 @@
-use Prim.Native.Nat.{ℕ, suc, _+_, _-_, _≤_}
+-- Job i goes before all later ones as defined. The loop's invariant: what is left to compare from place k on decides for all.
+use Prim.Native.Nat.{suc, _-_, _≤_}
 use mathlib.Core.List.{List, map}
-use mathlib.Core.Path.{_≡_, refl, sym, ap, _∙_}
+use mathlib.Core.Path.{_≡_, sym, _∙_}
 use lib.ListN.{length, getD, drop}
 use denote.Ref.{now}
 use borrow.Author.Needs.{needs}
@@ -15,9 +16,6 @@ use Rattle.run.proofs.JobRules.{before-from, before-end}
 use Rattle.run.proofs.Scans.{column-length}
 use Rattle.run.proofs.jobs.spaced.Statement.{statement}
 use Rattle.run.proofs.jobs.spaced.Tie as tie
-use Rattle.run.proofs.jobs.spaced.Reads as reads
-use Rattle.run.proofs.jobs.spaced.Lts as lts
-use Rattle.run.proofs.jobs.follows.Reads as follows-reads
 
 abbrev Inv-loop : tie.InvT-loop
 Inv-loop period tasks releases i task release k₀ k = (suc i ≤ k)

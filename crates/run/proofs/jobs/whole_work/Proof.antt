@@ -1,5 +1,6 @@
-use Prim.Native.Nat.{ℕ, _+_, _-_, _≤_, _<_}
-use mathlib.Core.Path.{_≡_, refl, sym, _∙_}
+-- Each job's work is stored at its place. The loop's invariant: every place below i has its job's work.
+use Prim.Native.Nat.{ℕ, _-_, _≤_, _<_}
+use mathlib.Core.Path.{_≡_}
 use lib.ListN.{length, getD}
 use lib.Seq.{ext-getD}
 use denote.Ref.{now}
@@ -9,8 +10,6 @@ use borrow.Author.Needs.{needs}
 use Rattle.run.proofs.Filled.{filled}
 use Rattle.run.proofs.jobs.whole_work.Statement.{statement}
 use Rattle.run.proofs.jobs.whole_work.Tie as tie
-use Rattle.run.proofs.jobs.whole_work.Reads as reads
-use Rattle.run.proofs.jobs.whole_work.Lts as lts
 
 abbrev Inv-loop : tie.InvT-loop
 Inv-loop works left₀ i₀ left i = (length left ≡ length left₀)

@@ -1,3 +1,5 @@
+-- The job that a slot serves is found by a scan from the right end. The loop's invariant: the place found from i on is `next` of the jobs from
+-- i on, counted from the list's start, and a job found has work left.
 use Prim.Native.Nat.{ℕ, _+_, _-_, _≤_, _<_}
 use mathlib.Core.List.{List, map}
 use mathlib.Core.Path.{_≡_, sym, subst, _∙_}
@@ -12,9 +14,6 @@ use Rattle.run.specs.Run.{next}
 use Rattle.run.proofs.Scans.{next-end, next-step, taken-waits, column-length}
 use Rattle.run.proofs.scan.choose.Statement.{statement}
 use Rattle.run.proofs.scan.choose.Tie as tie
-use Rattle.run.proofs.scan.choose.Reads as reads
-use Rattle.run.proofs.scan.choose.Lts as lts
-use Rattle.run.proofs.scan.first_of.Reads as first-of-reads
 
 abbrev Inv-loop : tie.InvT-loop
 Inv-loop due tasks releases left n first₀ i₀ first i = (i ≤ length left)

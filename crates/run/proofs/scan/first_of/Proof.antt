@@ -1,10 +1,9 @@
+-- Of job i and the one found behind it the right one is named: each return is the definition at the comparisons that led there.
 use borrow.Author.Needs.{needs}
 use Rattle.run.specs.Scan.{takesOver}
 use Rattle.budget.proofs.Tests.{tests}
 use Rattle.run.proofs.scan.first_of.Statement.{statement}
 use Rattle.run.proofs.scan.first_of.Tie as tie
-use Rattle.run.proofs.scan.first_of.Reads as reads
-use Rattle.run.proofs.scan.first_of.Lts as lts
 
 mul-if1 : tie.Need-mul-if1
 mul-if1 c = search needs

@@ -1,4 +1,5 @@
-use Prim.Native.Nat.{ℕ, _-_, _≤_, _<_}
+-- The lowest late task is found by a scan from the right end. The loop's invariant: what is found from i on is the lowest late task of the jobs from i on.
+use Prim.Native.Nat.{_-_, _≤_, _<_}
 use mathlib.Core.List.{List, map}
 use mathlib.Core.Path.{_≡_, sym, _∙_}
 use denote.Ref.{now}
@@ -11,9 +12,6 @@ use Rattle.run.specs.Walk.{lateTask}
 use Rattle.run.proofs.Scans.{late-end, late-step, column-length}
 use Rattle.run.proofs.scan.late_task.Statement.{statement}
 use Rattle.run.proofs.scan.late_task.Tie as tie
-use Rattle.run.proofs.scan.late_task.Reads as reads
-use Rattle.run.proofs.scan.late_task.Lts as lts
-use Rattle.run.proofs.scan.lower_late.Reads as lower-late-reads
 
 abbrev Inv-loop : tie.InvT-loop
 Inv-loop due tasks left t lowest₀ i₀ lowest i = (i ≤ length left)

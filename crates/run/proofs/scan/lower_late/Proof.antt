@@ -1,8 +1,7 @@
+-- The lower of a late job's task and the lowest found: each return is the definition at the comparisons that led there.
 use Rattle.budget.proofs.Tests.{tests}
 use Rattle.run.proofs.scan.lower_late.Statement.{statement}
 use Rattle.run.proofs.scan.lower_late.Tie as tie
-use Rattle.run.proofs.scan.lower_late.Reads as reads
-use Rattle.run.proofs.scan.lower_late.Lts as lts
 
 returns : tie.Need-returns
 returns c = search tests

@@ -1,3 +1,4 @@
+-- A slot does what the run's `slot` says, by its three kinds: not supplied, none waiting, one served. The job served has work left, so taking a unit does not wrap.
 use borrow.Author.Needs.{needs}
 use native.Mathlib.Omega.{arith}
 use denote.Ref.{now}
@@ -5,9 +6,6 @@ use Rattle.run.proofs.Scans.{column-length}
 use Rattle.run.proofs.Slots.{not-supplied, none-waits, one-served}
 use Rattle.run.proofs.scan.serve_slot.Statement.{statement}
 use Rattle.run.proofs.scan.serve_slot.Tie as tie
-use Rattle.run.proofs.scan.serve_slot.Reads as reads
-use Rattle.run.proofs.scan.serve_slot.Lts as lts
-use Rattle.run.proofs.scan.choose.Reads as choose-reads
 
 returns : tie.Need-returns
 returns c =

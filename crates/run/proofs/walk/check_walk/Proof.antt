@@ -1,3 +1,4 @@
+-- A walk is refused in the order defined: each return is the definition at the tests that were passed before it.
 use mathlib.Core.Path.{_≡_, sym, _∙_}
 use borrow.Author.Tests.{le-leb, lt-leb, eq-eqb, ne-eqb, not-true, not-false}
 use Rattle.budget.specs.Task.{tableRefusal}
@@ -6,11 +7,6 @@ use Rattle.run.proofs.Accepted.{table-accepted}
 use borrow.Author.Needs.{needs}
 use Rattle.run.proofs.walk.check_walk.Statement.{statement}
 use Rattle.run.proofs.walk.check_walk.Tie as tie
-use Rattle.run.proofs.walk.check_walk.Reads as reads
-use Rattle.run.proofs.walk.check_walk.Lts as lts
-use Rattle.budget.proofs.task.check_table.Reads as check-table-reads
-use Rattle.run.proofs.jobs.check_jobs.Reads as check-jobs-reads
-use Rattle.trace.proofs.legal.zeros_and_ones.Reads as zeros-and-ones-reads
 
 -- what each test that was passed shows
 table-fine : (c : tie.Else1) → tableRefusal (c .before .before .before .before .before .before .args .table) ≡ 0

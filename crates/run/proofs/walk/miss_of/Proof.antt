@@ -1,9 +1,8 @@
+-- The miss is read off the lowest late task as defined.
 use Rattle.run.specs.Walk.{missOf}
 use Rattle.budget.proofs.Tests.{tests}
 use Rattle.run.proofs.walk.miss_of.Statement.{statement}
 use Rattle.run.proofs.walk.miss_of.Tie as tie
-use Rattle.run.proofs.walk.miss_of.Reads as reads
-use Rattle.run.proofs.walk.miss_of.Lts as lts
 
 returns : tie.Need-returns
 unfolding missOf

@@ -1,12 +1,9 @@
+-- The walk answers and leaves the buffer as defined: refused, nothing is written; accepted, as the walk of what is accepted.
 use borrow.Author.Tests.{ne-eqb}
 use Rattle.run.specs.Walk.{refusedWalk, walkAnswer, leftAfter}
 use borrow.Author.Needs.{needs}
 use Rattle.run.proofs.walk.walk.Statement.{statement}
 use Rattle.run.proofs.walk.walk.Tie as tie
-use Rattle.run.proofs.walk.walk.Reads as reads
-use Rattle.run.proofs.walk.walk.Lts as lts
-use Rattle.run.proofs.walk.check_walk.Reads as check-walk-reads
-use Rattle.run.proofs.walk.walk_accepted.Reads as walk-accepted-reads
 
 check-walk-requires : tie.Need-check-walk-requires
 check-walk-requires c κs = search needs

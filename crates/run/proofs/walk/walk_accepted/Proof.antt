@@ -1,5 +1,6 @@
-use Prim.Native.Nat.{ℕ, _≤_}
-use mathlib.Core.Path.{_≡_, sym}
+-- The room for deadlines is cut to the number of jobs, which what is accepted keeps within it.
+use Prim.Native.Nat.{_≤_}
+use mathlib.Core.Path.{sym}
 use lib.ListN.{length}
 use lib.Seq.{length-take-le}
 use denote.Ref.{now}
@@ -8,9 +9,6 @@ use Rattle.run.proofs.Accepted.{accepted}
 use borrow.Author.Needs.{needs}
 use Rattle.run.proofs.walk.walk_accepted.Statement.{statement}
 use Rattle.run.proofs.walk.walk_accepted.Tie as tie
-use Rattle.run.proofs.walk.walk_accepted.Reads as reads
-use Rattle.run.proofs.walk.walk_accepted.Lts as lts
-use Rattle.run.proofs.walk.walk_jobs.Reads as walk-jobs-reads
 
 -- no more jobs than there is room for deadlines
 few : (s : tie.Start) → length (now (s .args .tasks)) ≤ most-jobs

@@ -1,4 +1,5 @@
-use Prim.Native.Nat.{ℕ, _≤_}
+-- What is accepted is walked: the deadlines and the whole works are those of the jobs given, so the walk over the slots is the run's.
+use Prim.Native.Nat.{_≤_}
 use mathlib.Core.Path.{_≡_, sym, _∙_}
 use lib.ListN.{length}
 use denote.Ref.{now}
@@ -12,11 +13,6 @@ use Rattle.run.proofs.JobRules.{lists}
 use borrow.Author.Needs.{needs}
 use Rattle.run.proofs.walk.walk_jobs.Statement.{statement}
 use Rattle.run.proofs.walk.walk_jobs.Tie as tie
-use Rattle.run.proofs.walk.walk_jobs.Reads as reads
-use Rattle.run.proofs.walk.walk_jobs.Lts as lts
-use Rattle.run.proofs.jobs.deadlines.Reads as deadlines-reads
-use Rattle.run.proofs.jobs.whole_work.Reads as whole-work-reads
-use Rattle.run.proofs.walk.walk_slots.Reads as walk-slots-reads
 
 -- what is accepted keeps the rules, and every place of the table's count stands in the table
 rules : (s : tie.Start) → let a = s .args in Accepted (a .table) (now (a .tasks)) (now (a .releases)) (now (a .works)) (now (a .trace)) (length (now (a .left)))

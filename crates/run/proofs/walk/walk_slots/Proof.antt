@@ -1,8 +1,10 @@
-use Prim.Native.Nat.{ℕ, _+_, _-_, _≤_, _<_}
+-- The walk goes slot by slot. The loop's invariant at instant t, for any jobs that these columns are of: the work left and the units are the
+-- run's at t, and the stop is where the walk from t on stops.
+use Prim.Native.Nat.{_+_, _-_, _≤_}
 use mathlib.Core.List.{List, map}
 use mathlib.Core.Logic.{⊎-elim, inl, inr}
-use mathlib.Core.Path.{_≡_, sym, subst, _∙_}
-use lib.ListN.{length, getD, drop}
+use mathlib.Core.Path.{_≡_}
+use lib.ListN.{length}
 use denote.Ref.{now}
 use borrow.Author.Needs.{needs}
 use native.Mathlib.Omega.{arith}
@@ -11,11 +13,6 @@ use Rattle.run.specs.Job.{Job, deadline}
 use Rattle.run.proofs.Walking.{Walking, begin, step, stopped, answers}
 use Rattle.run.proofs.walk.walk_slots.Statement.{statement}
 use Rattle.run.proofs.walk.walk_slots.Tie as tie
-use Rattle.run.proofs.walk.walk_slots.Reads as reads
-use Rattle.run.proofs.walk.walk_slots.Lts as lts
-use Rattle.run.proofs.scan.late_task.Reads as late-task-reads
-use Rattle.run.proofs.scan.serve_slot.Reads as serve-slot-reads
-use Rattle.run.proofs.walk.miss_of.Reads as miss-of-reads
 
 abbrev Inv-loop : tie.InvT-loop
 Inv-loop due tasks releases trace left₀ t₀ served₀ idle₀ left t served idle = (length left ≡ length left₀)
