@@ -14,6 +14,7 @@ use Rattle.budget.specs.declared.task.Task.{Task}
 use Rattle.budget.specs.declared.task.Table.{Table}
 use Rattle.budget.specs.Task.{T, C, D, noTask, tasksOf}
 use Rattle.budget.proofs.Places.{places}
+use Rattle.run.specs.Columns.{Tasks, Releases, Works}
 use Rattle.run.specs.Job.{Job, taskOf, deadline, inOrder, apart, validJob, beforeAll, legalArrival}
 use Rattle.run.specs.Run.{noJob}
 use Rattle.run.specs.Scan.{follows}
@@ -34,7 +35,7 @@ and-assoc true b c = refl
 and-assoc false b c = refl
 
 module _ (ks : List Task) (js : List Job) where
-  pub before-from : (ts rs : List ℕ) → map (λ j. j .task) js ≡ ts → map (λ j. j .release) js ≡ rs
+  pub before-from : (ts rs : List ℕ) → Tasks js ts → Releases js rs
       → (i k : ℕ) → i < length js → k < length js
       → beforeAll ks (getD js i noJob) (drop k js)
       ≡ (follows (T (taskOf ks (getD js i noJob))) (getD ts i 0) (getD rs i 0) (getD ts k 0) (getD rs k 0) && beforeAll ks (getD js i noJob) (drop (k + 1) js))
@@ -66,18 +67,18 @@ and-same : (a b b′ : Bool) → (a ≡ true → b ≡ b′) → (a && b) ≡ (a
 and-same true b b′ h = h refl
 and-same false b b′ h = refl
 
-module _ (table : Table) (fits : table .count ≤ length (table .tasks)) (js : List Job) (ts : List ℕ) (tasks : map (λ j. j .task) js ≡ ts)
+module _ (table : Table) (fits : table .count ≤ length (table .tasks)) (js : List Job) (ts : List ℕ) (tasks : Tasks js ts)
     (i : ℕ) (h : i < length js) where
   pub task-at : getD ts i 0 < table .count → taskOf (tasksOf table) (getD js i noJob) ≡ getD (table .tasks) (getD ts i 0) noTask
   unfolding taskOf tasksOf
   task-at there = rw (column (λ j. j .task) js ts tasks i h, getD-take (table .count) (table .tasks) (getD ts i 0) noTask there)
 
-  pub deadline-at : (rs : List ℕ) → map (λ j. j .release) js ≡ rs → getD ts i 0 < table .count
+  pub deadline-at : (rs : List ℕ) → Releases js rs → getD ts i 0 < table .count
       → deadline (tasksOf table) (getD js i noJob) ≡ getD rs i 0 + D (getD (table .tasks) (getD ts i 0) noTask)
   unfolding deadline
   deadline-at rs releases there = rw (task-at there, column (λ j. j .release) js rs releases i h)
 
-  pub valid-at : (ws : List ℕ) → map (λ j. j .work) js ≡ ws
+  pub valid-at : (ws : List ℕ) → Works js ws
       → validJob (tasksOf table) (getD js i noJob)
       ≡ (ltb (getD ts i 0) (table .count) && (leb 1 (getD ws i 0) && leb (getD ws i 0) (C (getD (table .tasks) (getD ts i 0) noTask))))
   unfolding validJob
@@ -88,7 +89,7 @@ module _ (table : Table) (fits : table .count ≤ length (table .tasks)) (js : L
 
 -- a list that has each job's deadline is the column of deadlines
 pub due-column : (table : Table) → table .count ≤ length (table .tasks) → (js : List Job) (ts rs due : List ℕ)
-    → map (λ j. j .task) js ≡ ts → map (λ j. j .release) js ≡ rs → length due ≡ length ts
+    → Tasks js ts → Releases js rs → length due ≡ length ts
     → ((k : ℕ) → k < length ts → getD ts k 0 < table .count)
     → ((k : ℕ) → k < length ts → getD due k 0 ≡ getD rs k 0 + D (getD (table .tasks) (getD ts k 0) noTask))
     → due ≡ map (deadline (tasksOf table)) js

@@ -13,6 +13,7 @@ use lib.Dec.{leb, ltb, eqb}
 use Rattle.budget.specs.declared.task.Task.{Task}
 use Rattle.budget.specs.Limits.{most-tasks}
 use Rattle.budget.proofs.Valid.{both}
+use Rattle.run.specs.Columns.{Deadlines, Tasks, Releases}
 use Rattle.run.specs.Job.{Job, deadline}
 use Rattle.run.specs.Run.{noJob, waits, goesBefore, headFirst, next}
 use Rattle.run.specs.Scan.{takesOver}
@@ -35,7 +36,7 @@ pub cut : {A : Type 0} (l : List A) (k i : ℕ) (d : A) → suc k ≡ i → k < 
 cut {A} l k i d e h = drop-cons l k d h ∙ ap (λ (n : ℕ). getD l k d ∷ drop n l) e
 
 -- the lowest late task from place k on
-pub late-step : (ks : List Task) (t : ℕ) (js : List Job) (due ts left : List ℕ) → map (deadline ks) js ≡ due → map (λ j. j .task) js ≡ ts
+pub late-step : (ks : List Task) (t : ℕ) (js : List Job) (due ts left : List ℕ) → Deadlines ks js due → Tasks js ts
     → (k i lowest : ℕ) → suc k ≡ i → k < length js → k < length left → lateTask ks t (drop i js) (drop i left) ≡ lowest
     → lateTask ks t (drop k js) (drop k left)
     ≡ cond ((eqb (getD due k 0) t && ltb 0 (getD left k 0)) && ltb (getD ts k 0) lowest) (getD ts k 0) lowest
@@ -62,7 +63,7 @@ places false k i p first e place = omega arith
 
 -- the job to serve from place k on, by its place in the whole list
 module _ (ks : List Task) (n : ℕ) (js : List Job) (due ts rs left : List ℕ)
-    (dues : map (deadline ks) js ≡ due) (tasks : map (λ j. j .task) js ≡ ts) (releases : map (λ j. j .release) js ≡ rs)
+    (dues : Deadlines ks js due) (tasks : Tasks js ts) (releases : Releases js rs)
     (same : length js ≡ length left) (k i first : ℕ) (e : suc k ≡ i) (hl : k < length left) where
   goes-before : (p : ℕ) → i + p ≡ first → first < length js
       → goesBefore ks (getD (drop i js) p noJob) (getD js k noJob)

@@ -6,11 +6,12 @@ use native.Mathlib.Omega.{arith}
 use mathlib.Core.Path.{_≡_, refl, sym, ap, _∙_}
 use mathlib.Core.Bool.{true, false}
 use mathlib.Core.Logic.{_⊎_, ⊎-elim}
-use mathlib.Core.List.{List, map}
+use mathlib.Core.List.{List}
 use lib.ListN.{length, getD}
 use borrow.Author.Tests.{lt-ltb, le-ltb}
 use Rattle.budget.specs.declared.task.Task.{Task}
 use Rattle.budget.specs.Limits.{most-tasks}
+use Rattle.run.specs.Columns.{Works}
 use Rattle.run.specs.declared.walk.Miss.{Miss}
 use Rattle.run.specs.declared.walk.Walked.{Walked}
 use Rattle.run.specs.Job.{Job}
@@ -25,7 +26,7 @@ pub record Walking (ks : List Task) (js : List Job) (s : List ℕ) (t : ℕ) (le
   pub stops : stop ks js s ≡ stopFrom ks js s t (length s - t)
 
 module _ (ks : List Task) (js : List Job) (s : List ℕ) where
-  pub begin : (left : List ℕ) → map (λ j. j .work) js ≡ left → Walking ks js s 0 left 0 0
+  pub begin : (left : List ℕ) → Works js left → Walking ks js s 0 left 0 0
   unfolding leftAt servedBefore idleBefore stop
   begin left e = record { leaves = sym e; serves = refl; idles = refl; stops = ap (stopFrom ks js s 0) (sym (sub-zero (length s))) }
 

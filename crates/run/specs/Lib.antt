@@ -1,3 +1,4 @@
+pub mod Columns
 pub mod Conservation
 pub mod FirstMiss
 pub mod Job

@@ -9,6 +9,7 @@ ghost use lib.ListN.{length, getD, drop};
 ghost use Rattle.budget.specs.declared.task.Task.{Task};
 ghost use Rattle.budget.specs.Limits.{most-tasks};
 ghost use Rattle.budget.specs.Task.{T, D, noTask, tasksOf};
+ghost use Rattle.run.specs.Columns.{Tasks, Releases, Works};
 ghost use Rattle.run.specs.Job.{Job, taskOf, deadline, validJob, beforeAll, legalArrival};
 ghost use Rattle.run.specs.Run.{noJob};
 ghost use Rattle.run.specs.Scan.{follows};
@@ -46,7 +47,7 @@ fn follows(period: u32, task: u32, release: u32, later_task: u32, later_release:
 // Whether job i, of a task with that period, and every job after it are in order and apart.
 fn spaced(period: u32, tasks: &[u32], releases: &[u32], i: usize) -> bool
     requires { ⌜ (length (now releases) ≡ length (now tasks)) × (i < length (now tasks)) ⌝ }
-    ensures { λ r. ⌜ ((ks : List Task) (js : List Job) → map (λ j. j .task) js ≡ now (tasks .entry) → map (λ j. j .release) js ≡ now (releases .entry) → T (taskOf ks (getD js i noJob)) ≡ period → r ≡ beforeAll ks (getD js i noJob) (drop (suc i) js)) ⌝ }
+    ensures { λ r. ⌜ ((ks : List Task) (js : List Job) → Tasks js (now (tasks .entry)) → Releases js (now (releases .entry)) → T (taskOf ks (getD js i noJob)) ≡ period → r ≡ beforeAll ks (getD js i noJob) (drop (suc i) js)) ⌝ }
 {
     let task = tasks[i];
     let release = releases[i];
@@ -63,7 +64,7 @@ fn spaced(period: u32, tasks: &[u32], releases: &[u32], i: usize) -> bool
 // Whether job i keeps the rules: its task is there, its work is 1 to C, and the jobs after it are in order and apart.
 fn legal_job(table: Table, tasks: &[u32], releases: &[u32], works: &[u32], i: usize) -> bool
     requires { ⌜ (table .count ≤ most-tasks) × (length (now releases) ≡ length (now tasks)) × (length (now works) ≡ length (now tasks)) × (i < length (now tasks)) ⌝ }
-    ensures { λ r. ⌜ ((js : List Job) → map (λ j. j .task) js ≡ now (tasks .entry) → map (λ j. j .release) js ≡ now (releases .entry) → map (λ j. j .work) js ≡ now (works .entry) → r ≡ (validJob (tasksOf table) (getD js i noJob) && beforeAll (tasksOf table) (getD js i noJob) (drop (suc i) js))) ⌝ }
+    ensures { λ r. ⌜ ((js : List Job) → Tasks js (now (tasks .entry)) → Releases js (now (releases .entry)) → Works js (now (works .entry)) → r ≡ (validJob (tasksOf table) (getD js i noJob) && beforeAll (tasksOf table) (getD js i noJob) (drop (suc i) js))) ⌝ }
 {
     let work = works[i];
     let place = tasks[i] as usize;
@@ -86,7 +87,7 @@ fn legal_job(table: Table, tasks: &[u32], releases: &[u32], works: &[u32], i: us
 // Whether the jobs are a legal arrival.
 fn legal_jobs(table: Table, tasks: &[u32], releases: &[u32], works: &[u32]) -> bool
     requires { ⌜ (table .count ≤ most-tasks) × (length (now releases) ≡ length (now tasks)) × (length (now works) ≡ length (now tasks)) ⌝ }
-    ensures { λ r. ⌜ ((js : List Job) → map (λ j. j .task) js ≡ now (tasks .entry) → map (λ j. j .release) js ≡ now (releases .entry) → map (λ j. j .work) js ≡ now (works .entry) → r ≡ legalArrival (tasksOf table) js) ⌝ }
+    ensures { λ r. ⌜ ((js : List Job) → Tasks js (now (tasks .entry)) → Releases js (now (releases .entry)) → Works js (now (works .entry)) → r ≡ legalArrival (tasksOf table) js) ⌝ }
 {
     let mut i = 0;
     while i < tasks.len() {
@@ -135,7 +136,7 @@ pub fn check_jobs(table: Table, tasks: &[u32], releases: &[u32], works: &[u32], 
 // The deadline of each job.
 pub fn deadlines(table: Table, tasks: &[u32], releases: &[u32], due: &mut [u32])
     requires { ⌜ (table .count ≤ most-tasks) × (length (now releases) ≡ length (now tasks)) × (length (now due) ≡ length (now tasks)) × ((k : ℕ) → k < length (now tasks) → (getD (now tasks) k 0 < table .count) × (getD (now releases) k 0 + D (getD (table .tasks) (getD (now tasks) k 0) noTask) < 2 ^ 32)) ⌝ }
-    ensures { λ r. ⌜ ((js : List Job) → map (λ j. j .task) js ≡ now (tasks .entry) → map (λ j. j .release) js ≡ now (releases .entry) → now (due .exit) ≡ map (deadline (tasksOf table)) js) ⌝ }
+    ensures { λ r. ⌜ ((js : List Job) → Tasks js (now (tasks .entry)) → Releases js (now (releases .entry)) → now (due .exit) ≡ map (deadline (tasksOf table)) js) ⌝ }
 {
     let all = table.tasks;
     let mut i = 0;

@@ -1,4 +1,4 @@
 // The run: a step-by-step walk over a trace with jobs.
-pub mod jobs;
-pub mod scan;
+mod jobs;
+mod scan;
 pub mod walk;

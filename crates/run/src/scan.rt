@@ -1,15 +1,19 @@
 // One slot of the run: which job is served, and which is late. The jobs are columns of numbers: deadlines, tasks, releases, work left.
 ghost use Prim.Native.Nat.{_+_, _≤_, _<_};
 ghost use mathlib.Core.Bool.{cond, _&&_};
-ghost use mathlib.Core.List.{List, map};
+ghost use mathlib.Core.List.{List};
 ghost use mathlib.Core.Path.{_≡_};
 ghost use lib.Dec.{ltb, eqb};
 ghost use lib.ListN.{length, getD};
 ghost use Rattle.budget.specs.declared.task.Task.{Task};
-ghost use Rattle.run.specs.Job.{Job, deadline};
+ghost use Rattle.run.specs.Columns.{Deadlines, Tasks, Releases};
+ghost use Rattle.run.specs.Job.{Job};
 ghost use Rattle.run.specs.Run.{next};
 ghost use Rattle.run.specs.Scan.{Slotted, takesOver};
 ghost use Rattle.run.specs.Walk.{lateTask};
+
+// Numbers no task: the numbers of tasks are below the most that a table has.
+pub const NO_TASK: u32 = 64;
 
 // Of job i and the first of those behind it, the one to serve in slot n; the count of jobs stands for none.
 fn first_of(
@@ -48,7 +52,7 @@ fn first_of(
 // The place of the job that a supplied slot n serves, or the count of jobs where none waits.
 fn choose(due: &[u32], tasks: &[u32], releases: &[u32], left: &[u32], n: u32) -> usize
     requires { ⌜ (length (now due) ≡ length (now left)) × (length (now tasks) ≡ length (now left)) × (length (now releases) ≡ length (now left)) ⌝ }
-    ensures { λ r. ⌜ ((ks : List Task) (js : List Job) → map (deadline ks) js ≡ now (due .entry) → map (λ j. j .task) js ≡ now (tasks .entry) → map (λ j. j .release) js ≡ now (releases .entry) → r ≡ next ks n js (now (left .entry))) ⌝ }
+    ensures { λ r. ⌜ ((ks : List Task) (js : List Job) → Deadlines ks js (now (due .entry)) → Tasks js (now (tasks .entry)) → Releases js (now (releases .entry)) → r ≡ next ks n js (now (left .entry))) ⌝ }
     ensures waiting { λ r. ⌜ (r < length (now (left .entry)) → 0 < getD (now (left .entry)) r 0) ⌝ }
 {
     let mut first = left.len();
@@ -76,12 +80,12 @@ fn lower_late(due: u32, task: u32, left: u32, t: u32, lowest: u32) -> u32
     lowest
 }
 
-// The lowest task number of the jobs late at instant t; 64, which numbers no task, where none is late.
+// The lowest task number of the jobs late at instant t; NO_TASK where none is late.
 pub fn late_task(due: &[u32], tasks: &[u32], left: &[u32], t: u32) -> u32
     requires { ⌜ (length (now due) ≡ length (now left)) × (length (now tasks) ≡ length (now left)) ⌝ }
-    ensures { λ r. ⌜ ((ks : List Task) (js : List Job) → map (deadline ks) js ≡ now (due .entry) → map (λ j. j .task) js ≡ now (tasks .entry) → r ≡ lateTask ks t js (now (left .entry))) ⌝ }
+    ensures { λ r. ⌜ ((ks : List Task) (js : List Job) → Deadlines ks js (now (due .entry)) → Tasks js (now (tasks .entry)) → r ≡ lateTask ks t js (now (left .entry))) ⌝ }
 {
-    let mut lowest = 64;
+    let mut lowest = NO_TASK;
     let mut i = left.len();
     while 0 < i {
         i -= 1;
@@ -106,7 +110,7 @@ pub fn serve_slot(
     left: &mut [u32],
 ) -> Given
     requires { ⌜ (length (now due) ≡ length (now left)) × (length (now tasks) ≡ length (now left)) × (length (now releases) ≡ length (now left)) ⌝ }
-    ensures { λ r. ⌜ ((ks : List Task) (js : List Job) → map (deadline ks) js ≡ now (due .entry) → map (λ j. j .task) js ≡ now (tasks .entry) → map (λ j. j .release) js ≡ now (releases .entry) → Slotted ks js n byte (now (left .entry)) (now (left .exit)) (r .served) (r .idle)) ⌝ }
+    ensures { λ r. ⌜ ((ks : List Task) (js : List Job) → Deadlines ks js (now (due .entry)) → Tasks js (now (tasks .entry)) → Releases js (now (releases .entry)) → Slotted ks js n byte (now (left .entry)) (now (left .exit)) (r .served) (r .idle)) ⌝ }
     ensures single { λ r. ⌜ r .served + r .idle ≤ 1 ⌝ }
 {
     if byte == 0 {

@@ -3,6 +3,7 @@ use crate::jobs::MOST;
 use crate::jobs::check_jobs;
 use crate::jobs::deadlines;
 use crate::jobs::whole_work;
+use crate::scan::NO_TASK;
 use crate::scan::late_task;
 use crate::scan::serve_slot;
 use budget::quantity::Time;
@@ -13,11 +14,12 @@ use budget::task::check_table;
 use trace::legal::LONGEST;
 use trace::legal::zeros_and_ones;
 ghost use Prim.Native.Nat.{_≤_};
-ghost use mathlib.Core.List.{List, map};
+ghost use mathlib.Core.List.{List};
 ghost use mathlib.Core.Path.{_≡_};
 ghost use lib.ListN.{length};
 ghost use Rattle.budget.specs.declared.task.Task.{Task};
-ghost use Rattle.run.specs.Job.{Job, deadline};
+ghost use Rattle.run.specs.Columns.{Deadlines, Tasks, Releases, Works};
+ghost use Rattle.run.specs.Job.{Job};
 ghost use Rattle.run.specs.Run.{leftAt};
 ghost use Rattle.run.specs.Walk.{missOf, stop, walkedTo, walkRefusal, walkAnswer, leftAfter};
 
@@ -35,11 +37,11 @@ pub struct Walked {
     pub idle: Units,
 }
 
-// The miss at instant t, by the lowest late task; 64 numbers no task and stands for none.
+// The miss at instant t, by the lowest late task; NO_TASK stands for none.
 fn miss_of(t: u32, late: u32) -> Miss
     ensures { λ r. ⌜ r ≡ missOf t late ⌝ }
 {
-    if late < 64 {
+    if late < NO_TASK {
         return Miss::At(Time(t), late);
     }
     Miss::None
@@ -54,14 +56,14 @@ fn walk_slots(
     left: &mut [u32],
 ) -> Walked
     requires { ⌜ (length (now due) ≡ length (now left)) × (length (now tasks) ≡ length (now left)) × (length (now releases) ≡ length (now left)) × (length (now trace) ≤ 65536) ⌝ }
-    ensures { λ r. ⌜ ((ks : List Task) (js : List Job) → map (deadline ks) js ≡ now (due .entry) → map (λ j. j .task) js ≡ now (tasks .entry) → map (λ j. j .release) js ≡ now (releases .entry) → map (λ j. j .work) js ≡ now (left .entry) → (r ≡ walkedTo ks js (now (trace .entry)) (stop ks js (now (trace .entry)))) × (now (left .exit) ≡ leftAt ks js (now (trace .entry)) (stop ks js (now (trace .entry))))) ⌝ }
+    ensures { λ r. ⌜ ((ks : List Task) (js : List Job) → Deadlines ks js (now (due .entry)) → Tasks js (now (tasks .entry)) → Releases js (now (releases .entry)) → Works js (now (left .entry)) → (r ≡ walkedTo ks js (now (trace .entry)) (stop ks js (now (trace .entry)))) × (now (left .exit) ≡ leftAt ks js (now (trace .entry)) (stop ks js (now (trace .entry))))) ⌝ }
 {
     let mut t = 0;
     let mut served = 0;
     let mut idle = 0;
     while t < trace.len() {
         let instant = t as u32;
-        if late_task(due, tasks, left, instant) < 64 {
+        if late_task(due, tasks, left, instant) < NO_TASK {
             break;
         }
         let given = serve_slot(due, tasks, releases, trace[t], instant, left);

@@ -1,7 +1,7 @@
 -- A job keeps its own rules and goes before the later ones as defined. Its task is read from the table, whose count stands within it.
 use Prim.Native.Nat.{_≤_}
 use mathlib.Core.Bool.{_&&_}
-use mathlib.Core.List.{List, map}
+use mathlib.Core.List.{List}
 use mathlib.Core.Path.{_≡_, sym, ap}
 use lib.Dec.{leb, ltb}
 use lib.ListN.{length, getD}
@@ -12,6 +12,7 @@ use borrow.Author.Tests.{lt-ltb, le-ltb, le-leb, lt-leb}
 use Rattle.budget.specs.Limits.{most-tasks}
 use Rattle.budget.specs.Task.{T, C, noTask, tasksOf}
 use Rattle.budget.proofs.Places.{length-mapped}
+use Rattle.run.specs.Columns.{Tasks, Works}
 use Rattle.run.specs.Job.{Job, validJob}
 use Rattle.run.specs.Run.{noJob}
 use Rattle.run.proofs.JobRules.{valid-at, task-at}
@@ -27,7 +28,7 @@ room s =
     le-trans (s .pre .0) (le-of-eq (sym full))
 
 -- the job's own rules, as the code tests them
-valid : (s : tie.Start) (js : List Job) → map (λ j. j .task) js ≡ now (s .args .tasks) → map (λ j. j .work) js ≡ now (s .args .works)
+valid : (s : tie.Start) (js : List Job) → Tasks js (now (s .args .tasks)) → Works js (now (s .args .works))
     → let a = s .args in
     let k = getD (now (a .tasks)) (a .i) 0 in
     let w = getD (now (a .works)) (a .i) 0 in

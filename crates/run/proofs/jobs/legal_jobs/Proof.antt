@@ -1,12 +1,13 @@
 -- The jobs are a legal arrival as defined. The loop's invariant: what is left to check from place i on decides for all.
 use Prim.Native.Nat.{_-_, _≤_}
-use mathlib.Core.List.{List, map}
+use mathlib.Core.List.{List}
 use mathlib.Core.Path.{_≡_, refl, sym, _∙_}
 use lib.ListN.{length, drop}
 use borrow.Author.Needs.{needs}
 use borrow.Author.Tests.{not-true, not-false}
 use native.Mathlib.Omega.{arith}
 use Rattle.budget.specs.Task.{tasksOf}
+use Rattle.run.specs.Columns.{Tasks, Releases, Works}
 use Rattle.run.specs.Job.{Job, legalArrival}
 use Rattle.run.proofs.JobRules.{legal-from, legal-end}
 use Rattle.run.proofs.Scans.{column-length}
@@ -15,7 +16,7 @@ use Rattle.run.proofs.jobs.legal_jobs.Tie as tie
 
 abbrev Inv-loop : tie.InvT-loop
 Inv-loop table tasks releases works i₀ i = (i ≤ length tasks)
-    × ((js : List Job) → map (λ j. j .task) js ≡ tasks → map (λ j. j .release) js ≡ releases → map (λ j. j .work) js ≡ works
+    × ((js : List Job) → Tasks js tasks → Releases js releases → Works js works
     → legalArrival (tasksOf table) js ≡ legalArrival (tasksOf table) (drop i js))
 
 abbrev μ-loop : tie.MeasureT-loop

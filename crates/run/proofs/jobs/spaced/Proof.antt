@@ -1,6 +1,6 @@
 -- Job i goes before all later ones as defined. The loop's invariant: what is left to compare from place k on decides for all.
 use Prim.Native.Nat.{suc, _-_, _≤_}
-use mathlib.Core.List.{List, map}
+use mathlib.Core.List.{List}
 use mathlib.Core.Path.{_≡_, sym, _∙_}
 use lib.ListN.{length, getD, drop}
 use denote.Ref.{now}
@@ -10,6 +10,7 @@ use native.Mathlib.Numerals.{add-one}
 use native.Mathlib.Omega.{arith}
 use Rattle.budget.specs.declared.task.Task.{Task}
 use Rattle.budget.specs.Task.{T}
+use Rattle.run.specs.Columns.{Tasks, Releases}
 use Rattle.run.specs.Job.{Job, taskOf, beforeAll}
 use Rattle.run.specs.Run.{noJob}
 use Rattle.run.proofs.JobRules.{before-from, before-end}
@@ -20,7 +21,7 @@ use Rattle.run.proofs.jobs.spaced.Tie as tie
 abbrev Inv-loop : tie.InvT-loop
 Inv-loop period tasks releases i task release k₀ k = (suc i ≤ k)
     × (k ≤ length tasks)
-    × ((ks : List Task) (js : List Job) → map (λ j. j .task) js ≡ tasks → map (λ j. j .release) js ≡ releases
+    × ((ks : List Task) (js : List Job) → Tasks js tasks → Releases js releases
     → T (taskOf ks (getD js i noJob)) ≡ period → beforeAll ks (getD js i noJob) (drop (suc i) js) ≡ beforeAll ks (getD js i noJob) (drop k js))
 
 abbrev μ-loop : tie.MeasureT-loop

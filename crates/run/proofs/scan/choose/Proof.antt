@@ -1,7 +1,7 @@
 -- The job that a slot serves is found by a scan from the right end. The loop's invariant: the place found from i on is `next` of the jobs from
 -- i on, counted from the list's start, and a job found has work left.
 use Prim.Native.Nat.{ℕ, _+_, _-_, _≤_, _<_}
-use mathlib.Core.List.{List, map}
+use mathlib.Core.List.{List}
 use mathlib.Core.Path.{_≡_, sym, subst, _∙_}
 use denote.Ref.{now}
 use lib.ListN.{length, getD, drop}
@@ -9,7 +9,8 @@ use borrow.Author.Needs.{needs}
 use native.Mathlib.Nat.{zero-add}
 use native.Mathlib.Omega.{arith}
 use Rattle.budget.specs.declared.task.Task.{Task}
-use Rattle.run.specs.Job.{Job, deadline}
+use Rattle.run.specs.Columns.{Deadlines, Tasks, Releases}
+use Rattle.run.specs.Job.{Job}
 use Rattle.run.specs.Run.{next}
 use Rattle.run.proofs.Scans.{next-end, next-step, taken-waits, column-length}
 use Rattle.run.proofs.scan.choose.Statement.{statement}
@@ -18,7 +19,7 @@ use Rattle.run.proofs.scan.choose.Tie as tie
 abbrev Inv-loop : tie.InvT-loop
 Inv-loop due tasks releases left n first₀ i₀ first i = (i ≤ length left)
     × (first < length left → 0 < getD left first 0)
-    × ((ks : List Task) (js : List Job) → map (deadline ks) js ≡ due → map (λ j. j .task) js ≡ tasks → map (λ j. j .release) js ≡ releases
+    × ((ks : List Task) (js : List Job) → Deadlines ks js due → Tasks js tasks → Releases js releases
     → i + next ks n (drop i js) (drop i left) ≡ first)
 
 abbrev μ-loop : tie.MeasureT-loop

@@ -1,13 +1,14 @@
 -- The lowest late task is found by a scan from the right end. The loop's invariant: what is found from i on is the lowest late task of the jobs from i on.
 use Prim.Native.Nat.{_-_, _≤_, _<_}
-use mathlib.Core.List.{List, map}
+use mathlib.Core.List.{List}
 use mathlib.Core.Path.{_≡_, sym, _∙_}
 use denote.Ref.{now}
 use lib.ListN.{length, drop}
 use borrow.Author.Needs.{needs}
 use native.Mathlib.Omega.{arith}
 use Rattle.budget.specs.declared.task.Task.{Task}
-use Rattle.run.specs.Job.{Job, deadline}
+use Rattle.run.specs.Columns.{Deadlines, Tasks}
+use Rattle.run.specs.Job.{Job}
 use Rattle.run.specs.Walk.{lateTask}
 use Rattle.run.proofs.Scans.{late-end, late-step, column-length}
 use Rattle.run.proofs.scan.late_task.Statement.{statement}
@@ -15,7 +16,7 @@ use Rattle.run.proofs.scan.late_task.Tie as tie
 
 abbrev Inv-loop : tie.InvT-loop
 Inv-loop due tasks left t lowest₀ i₀ lowest i = (i ≤ length left)
-    × ((ks : List Task) (js : List Job) → map (deadline ks) js ≡ due → map (λ j. j .task) js ≡ tasks → lateTask ks t (drop i js) (drop i left) ≡ lowest)
+    × ((ks : List Task) (js : List Job) → Deadlines ks js due → Tasks js tasks → lateTask ks t (drop i js) (drop i left) ≡ lowest)
 
 abbrev μ-loop : tie.MeasureT-loop
 μ-loop due tasks left t lowest₀ i₀ lowest i = i

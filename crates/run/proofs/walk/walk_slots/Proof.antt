@@ -1,7 +1,7 @@
 -- The walk goes slot by slot. The loop's invariant at instant t, for any jobs that these columns are of: the work left and the units are the
 -- run's at t, and the stop is where the walk from t on stops.
 use Prim.Native.Nat.{_+_, _-_, _≤_}
-use mathlib.Core.List.{List, map}
+use mathlib.Core.List.{List}
 use mathlib.Core.Logic.{⊎-elim, inl, inr}
 use mathlib.Core.Path.{_≡_}
 use lib.ListN.{length}
@@ -9,7 +9,8 @@ use denote.Ref.{now}
 use borrow.Author.Needs.{needs}
 use native.Mathlib.Omega.{arith}
 use Rattle.budget.specs.declared.task.Task.{Task}
-use Rattle.run.specs.Job.{Job, deadline}
+use Rattle.run.specs.Columns.{Deadlines, Tasks, Releases, Works}
+use Rattle.run.specs.Job.{Job}
 use Rattle.run.proofs.Walking.{Walking, begin, step, stopped, answers}
 use Rattle.run.proofs.walk.walk_slots.Statement.{statement}
 use Rattle.run.proofs.walk.walk_slots.Tie as tie
@@ -18,8 +19,8 @@ abbrev Inv-loop : tie.InvT-loop
 Inv-loop due tasks releases trace left₀ t₀ served₀ idle₀ left t served idle = (length left ≡ length left₀)
     × (t ≤ length trace)
     × (served + idle ≤ t)
-    × ((ks : List Task) (js : List Job) → map (deadline ks) js ≡ due → map (λ j. j .task) js ≡ tasks → map (λ j. j .release) js ≡ releases
-    → map (λ j. j .work) js ≡ left₀ → Walking ks js trace t left served idle)
+    × ((ks : List Task) (js : List Job) → Deadlines ks js due → Tasks js tasks → Releases js releases
+    → Works js left₀ → Walking ks js trace t left served idle)
 
 abbrev μ-loop : tie.MeasureT-loop
 μ-loop due tasks releases trace left₀ t₀ served₀ idle₀ left t served idle = length trace - t
