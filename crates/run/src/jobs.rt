@@ -143,7 +143,8 @@ pub fn deadlines(table: Table, tasks: &[u32], releases: &[u32], due: &mut [u32])
     while i < tasks.len() {
         let place = tasks[i] as usize;
         let task = all[place];
-        due[i] = releases[i] + task.deadline.0;
+        let release = releases[i];
+        due[i] = release + task.deadline.0;
         i += 1;
     }
 }

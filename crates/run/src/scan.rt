@@ -31,7 +31,7 @@ fn first_of(
     if n < releases[i] {
         return first;
     }
-    if left[i] <= 0 {
+    if left[i] == 0 {
         return first;
     }
     if left.len() <= first {
@@ -71,7 +71,7 @@ fn lower_late(due: u32, task: u32, left: u32, t: u32, lowest: u32) -> u32
     if due != t {
         return lowest;
     }
-    if left <= 0 {
+    if left == 0 {
         return lowest;
     }
     if task < lowest {

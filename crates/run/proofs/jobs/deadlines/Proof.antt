@@ -54,17 +54,17 @@ mul-task c = omega (arith, fine (c .before) .0, c .before .before .before .befor
 array-copy-out-task : tie.Need-array-copy-out-task Inv-loop μ-loop
 array-copy-out-task c = omega (arith, fine (c .before) .0, c .before .before .before .before .pre .0)
 
-mul-due : tie.Need-mul-due Inv-loop μ-loop
-mul-due c = search needs
+mul-release : tie.Need-mul-release Inv-loop μ-loop
+mul-release c = search needs
 
-shared-slice-read-due : tie.Need-shared-slice-read-due Inv-loop μ-loop
-shared-slice-read-due c = search needs
+shared-slice-read-release : tie.Need-shared-slice-read-release Inv-loop μ-loop
+shared-slice-read-release c = search needs
 
 add-due : tie.Need-add-due Inv-loop μ-loop
-add-due c = record { fits = fine (c .before .before .before .before) .1 }
+add-due c = omega (arith, fine (c .before .before .before .before) .1)
 
-mul-due-2 : tie.Need-mul-due-2 Inv-loop μ-loop
-mul-due-2 c = search needs
+mul-due : tie.Need-mul-due Inv-loop μ-loop
+mul-due c = search needs
 
 slice-write-due : tie.Need-slice-write-due Inv-loop μ-loop
 slice-write-due c = search needs
@@ -109,10 +109,10 @@ deadlines-spec =
     cast-place
     mul-task
     array-copy-out-task
-    mul-due
-    shared-slice-read-due
+    mul-release
+    shared-slice-read-release
     add-due
-    mul-due-2
+    mul-due
     slice-write-due
     add-i
     loop-less
