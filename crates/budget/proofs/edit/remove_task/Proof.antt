@@ -1,10 +1,11 @@
 -- Removing a task answers as defined: the refusals in turn, or the tasks before the place and those after it copied into a table of zeros.
-use mathlib.Core.List.{[]}
-use mathlib.Core.Path.{_≡_, sym, _∙_, ap}
+use Prim.Native.Nat.{ℕ}
+use mathlib.Core.List.{[], _++_}
+use mathlib.Core.Path.{_≡_, sym, _∙_, ap, ap₂}
 use native.Mathlib.Nat.{le-of-lt}
 use native.Mathlib.Numerals.{add-one}
 use native.Mathlib.Omega.{arith}
-use lib.ListN.{take, length-take}
+use lib.ListN.{take, drop, length-take}
 use lib.Seq.{take-take}
 use Rattle.budget.specs.Edit.{removed}
 use Rattle.budget.specs.Task.{tasksOf, tableOf}
@@ -32,7 +33,8 @@ shorter : (c : tie.After-append-part2) → let a = c .before .before .before .be
 unfolding tasksOf removed
 shorter c =
     let a = c .before .before .before .before .before .before .before .args in
-    c .append-part2 .ensures ∙ rw (tasks-are _ _ (kept (c .before)), add-one (a .place))
+    let after = ap (λ (n : ℕ). drop n (tasksOf (a .component .table))) (add-one (a .place)) in
+    c .append-part2 .ensures ∙ ap tableOf (ap₂ _++_ (tasks-are _ _ (kept (c .before))) after)
 
 check-ranges-requires : tie.Need-check-ranges-requires
 check-ranges-requires c κs = search needs
