@@ -1,12 +1,14 @@
 -- A walk over the places of a task table: the tasks from a place on are the one that stands there and those from the next place on.
 use Prim.Native.Nat.{ℕ, _+_, _≤_, _<_}
 use mathlib.Core.Path.{_≡_, sym, _∙_}
+use mathlib.Core.Bool.{true}
 use mathlib.Core.List.{List, [], _∷_, map}
 use native.Mathlib.Numerals.{add-one}
 use lib.ListN.{length, getD, take, drop, length-map, drop-of-length-le}
 use lib.Seq.{drop-cons, getD-take, length-take-le}
 use Rattle.budget.specs.declared.task.Task.{Task}
-use Rattle.budget.specs.Task.{noTask}
+use Rattle.budget.specs.Task.{noTask, validTasks}
+use Rattle.budget.proofs.Valid.{ValidTask, valid-head, valid-tail}
 
 -- what owning an array of structs tells of its list stands at `map`
 pub length-mapped : {X Y : Type 0} (f : X → Y) (l : List X) (n : ℕ) → length (map f l) ≡ n → length l ≡ n
@@ -23,3 +25,9 @@ module _ (count : ℕ) (tasks : List Task) (fits : count ≤ length tasks) where
 
   pub from-end : (n : ℕ) → count ≤ n → drop n (take count tasks) ≡ []
   from-end n h = drop-of-length-le (take count tasks) {i = n} (rw places h)
+
+  -- of tasks in range the one at the place is, and those after it are
+  pub valid-from : (n : ℕ) → n < count → validTasks (drop n (take count tasks)) ≡ true → ValidTask (getD tasks n noTask) × (validTasks (drop (n + 1) (take count tasks)) ≡ true)
+  valid-from n h e =
+      let v = rw (from-place n h) at e in
+      (valid-head (getD tasks n noTask) _ v, valid-tail (getD tasks n noTask) _ v)

@@ -2,6 +2,8 @@
 use crate::quantity::Amount;
 use crate::quantity::Time;
 use crate::quantity::Units;
+use crate::quantity::check_instant;
+use crate::quantity::no_amount;
 use crate::refusal;
 use crate::task::Table;
 use crate::task::Task;
@@ -47,20 +49,11 @@ fn units_due(table: Table, at: u32) -> u32
 pub fn demand(table: Table, t: Time) -> Amount
     ensures { λ r. ⌜ r ≡ Demand.demandAnswer table (t .0) ⌝ }
 {
-    let refused = check_table(table);
+    let refused = check_instant(check_table(table), t);
     if refused != refusal::NONE {
-        return Amount {
-            refusal: refused,
-            units: Units(0),
-        };
+        return no_amount(refused);
     }
     let at = t.0;
-    if Time::LIMIT < at {
-        return Amount {
-            refusal: refusal::RANGE,
-            units: Units(0),
-        };
-    }
     Amount {
         refusal: refusal::NONE,
         units: Units(units_due(table, at)),

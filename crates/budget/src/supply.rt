@@ -4,6 +4,8 @@ use crate::interface::check_interface;
 use crate::quantity::Amount;
 use crate::quantity::Time;
 use crate::quantity::Units;
+use crate::quantity::check_instant;
+use crate::quantity::no_amount;
 use crate::refusal;
 ghost use mathlib.Core.Path.{_≡_};
 ghost use Prim.Native.Nat.{_≤_};
@@ -37,20 +39,11 @@ fn units_by(interface: Interface, at: u32) -> u32
 pub fn supply(interface: Interface, t: Time) -> Amount
     ensures { λ r. ⌜ r ≡ Supply.supplyAnswer interface (t .0) ⌝ }
 {
-    let refused = check_interface(interface);
+    let refused = check_instant(check_interface(interface), t);
     if refused != refusal::NONE {
-        return Amount {
-            refusal: refused,
-            units: Units(0),
-        };
+        return no_amount(refused);
     }
     let at = t.0;
-    if Time::LIMIT < at {
-        return Amount {
-            refusal: refusal::RANGE,
-            units: Units(0),
-        };
-    }
     Amount {
         refusal: refusal::NONE,
         units: Units(units_by(interface, at)),

@@ -1,7 +1,7 @@
 -- The common period of a table is folded as defined. The loop's invariant: the running multiple, within the limit, and the tasks from the present place on have the common period of the whole.
 use Prim.Native.Nat.{ℕ, _+_, _-_, _≤_, _<_}
 use mathlib.Core.Bool.{true}
-use mathlib.Core.List.{List, _∷_}
+use mathlib.Core.List.{List}
 use mathlib.Core.Path.{_≡_, refl, sym, _∙_, ap}
 use native.Mathlib.Nat.{le-trans, le-of-eq, lt-of-lt-of-le}
 use native.Mathlib.Omega.{arith}
@@ -12,8 +12,8 @@ use Rattle.budget.specs.CommonPeriod.{commonMultiple, commonPeriod}
 use Rattle.budget.specs.Limits.{limit, most-tasks}
 use Rattle.budget.specs.Task.{T, validTasks, tasksOf, noTask}
 use Rattle.budget.proofs.CommonPeriodLaws.{common-grows, multiple-positive}
-use Rattle.budget.proofs.Places.{length-mapped, from-place, from-end}
-use Rattle.budget.proofs.Valid.{ValidTask, valid-head, valid-tail}
+use Rattle.budget.proofs.Places.{length-mapped, from-place, from-end, valid-from}
+use Rattle.budget.proofs.Valid.{ValidTask}
 use Rattle.budget.proofs.Within.{within-is, above-is, is-above, is-within}
 use Rattle.budget.proofs.common_period.common_length.Statement.{statement}
 use Rattle.budget.proofs.common_period.common_length.Tie as tie
@@ -46,17 +46,11 @@ module _ (c : tie.In-loop Inv-loop μ-loop) where
   abbrev next : ℕ
   next = commonMultiple (c .before .loop .length) (T here)
 
-  left-valid : validTasks (here ∷ rest) ≡ true
-  left-valid = rw (from-place _ _ (room start) _ (c .loop-test .taken)) at (c .before .loop .inv .3)
-
-  in-range : ValidTask here
-  in-range = valid-head here rest left-valid
-
-  rest-valid : validTasks rest ≡ true
-  rest-valid = valid-tail here rest left-valid
+  valid : ValidTask here × (validTasks rest ≡ true)
+  valid = valid-from _ _ (room start) _ (c .loop-test .taken) (c .before .loop .inv .3)
 
   next-positive : 1 ≤ next
-  next-positive = multiple-positive (c .before .loop .length) (T here) (c .before .loop .inv .1) (omega (arith, in-range))
+  next-positive = multiple-positive (c .before .loop .length) (T here) (c .before .loop .inv .1) (omega (arith, valid .0))
 
   whole : commonPeriod (start .args .period) (tasksOf (start .args .table)) ≡ commonPeriod next rest
   unfolding commonPeriod tasksOf
@@ -73,13 +67,13 @@ array-copy-out-task : tie.Need-array-copy-out-task Inv-loop μ-loop
 array-copy-out-task c = search needs
 
 common-multiple-requires : tie.Need-common-multiple-requires Inv-loop μ-loop
-common-multiple-requires c κs = let i = c .before .before .loop .inv in (i .1, i .2, in-range (c .before) .bounded)
+common-multiple-requires c κs = let i = c .before .before .loop .inv in (i .1, i .2, valid (c .before) .0 .bounded)
 
 returns : tie.Need-returns Inv-loop μ-loop
 returns c =
     let w = c .before .before .before in
     let over : limit < next w = is-above (next w) (next-positive w) (sym (c .before .common-multiple .ensures) ∙ c .if1 .taken) in
-    rw (whole w) (sym (above-is _ (lt-of-lt-of-le over (common-grows (next w) (rest w) (next-positive w) (rest-valid w)))))
+    rw (whole w) (sym (above-is _ (lt-of-lt-of-le over (common-grows (next w) (rest w) (next-positive w) (valid w .1)))))
 
 add-place : tie.Need-add-place Inv-loop μ-loop
 add-place c = search needs
@@ -93,7 +87,7 @@ loop-again c =
     let w = c .before .before .before in
     let fits : next w ≤ limit = is-within (next w) (λ z. c .if1 .left (c .before .common-multiple .ensures ∙ z)) in
     let e : c .before .common-multiple .result ≡ next w = c .before .common-multiple .ensures ∙ within-is (next w) fits in
-    (search needs, rw e (next-positive w), rw e fits, rest-valid w, rw e (whole w))
+    (search needs, rw e (next-positive w), rw e fits, valid w .1, rw e (whole w))
 
 returns-2 : tie.Need-returns-2 Inv-loop μ-loop
 unfolding commonPeriod tasksOf

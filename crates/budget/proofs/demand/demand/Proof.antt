@@ -1,40 +1,56 @@
--- Demand answers as defined: each return is the answer at the refusal found, and a demand that is summed is that of a table in range.
-use mathlib.Core.Path.{sym, _∙_}
+-- Demand answers as defined: the refusal found, or the sum over a table that is in range.
+use Prim.Native.Nat.{ℕ, _≤_}
+use mathlib.Core.Bool.{true}
+use mathlib.Core.Path.{_≡_, sym, _∙_, ap}
 use borrow.Author.Needs.{needs}
 use Rattle.budget.specs.Demand.{demand, demandRefusal, demandAnswer}
-use Rattle.budget.specs.Task.{tasksOf}
-use Rattle.budget.proofs.Answers.{answer-refused, answer-late, answer-given}
+use Rattle.budget.specs.Limits.{limit, most-tasks}
+use Rattle.budget.specs.Task.{tasksOf, validTasks}
+use Rattle.budget.proofs.Answers.{at-instant, instant-passed, answer-refused, demand-given}
 use Rattle.budget.proofs.Ranges.{table-in-range}
 use Rattle.budget.proofs.demand.demand.Statement.{statement}
 use Rattle.budget.proofs.demand.demand.Tie as tie
 
+-- the refusal found is the one defined
+found : (c : tie.After-check-instant) → let a = c .before .before .args in c .check-instant .result ≡ demandRefusal (a .table) (a .t .0)
+unfolding demandRefusal
+found c = c .check-instant .ensures ∙ ap (λ (n : ℕ). at-instant n (c .before .before .args .t .0)) (c .before .check-table .ensures)
+
 check-table-requires : tie.Need-check-table-requires
 check-table-requires c κs = search needs
 
-returns : tie.Need-returns
-unfolding demandAnswer demandRefusal
-returns c =
-    let a = c .before .before .args in
-    rw (← c .before .check-table .ensures)
-    (sym (answer-refused _ (a .t .0) (demand (tasksOf (a .table)) (a .t .0)) (c .if1 .taken)))
+check-instant-requires : tie.Need-check-instant-requires
+check-instant-requires c κs = search needs
 
-returns-2 : tie.Need-returns-2
-unfolding demandAnswer demandRefusal
-returns-2 c =
-    rw (← c .before .before .check-table .ensures, c .before .if1 .left)
-    (sym (answer-late _ _ (c .if2 .taken)))
+no-amount-requires : tie.Need-no-amount-requires
+no-amount-requires c κs = search needs
+
+returns : tie.Need-returns
+unfolding demandAnswer
+returns c =
+    let e = found (c .before .before) in
+    let a = c .before .before .before .before .args in
+    c .no-amount .ensures ∙ rw e (sym (answer-refused (demandRefusal (a .table) (a .t .0)) (demand (tasksOf (a .table)) (a .t .0)) (λ z. c .before .if1 .taken (e ∙ z))))
+
+-- where there is none the table and the instant are in range
+known : (c : tie.Else1) → let a = c .before .before .before .args in ((a .table .count ≤ most-tasks) × (validTasks (tasksOf (a .table)) ≡ true)) × (a .t .0 ≤ limit)
+known c =
+    let p = instant-passed _ _ (sym (c .before .check-instant .ensures) ∙ c .if1 .left) in
+    (table-in-range _ (sym (c .before .before .check-table .ensures) ∙ p .0), p .1)
 
 units-due-requires : tie.Need-units-due-requires
-units-due-requires c κs =
-    let v = table-in-range _ (sym (c .before .before .check-table .ensures) ∙ c .before .if1 .left) in
-    (v .0, v .1, c .if2 .left)
+units-due-requires c κs = (known c .0 .0, known c .0 .1, known c .1)
 
-returns-3 : tie.Need-returns-3
-unfolding demandAnswer demandRefusal
-returns-3 c =
-    rw (← c .before .before .before .check-table .ensures, c .before .before .if1 .left, c .units-due .ensures)
-    (sym (answer-given _ _ (c .before .if2 .left)))
+returns-2 : tie.Need-returns-2
+returns-2 c = rw (c .units-due .ensures) (sym (demand-given _ _ (known (c .before) .0 .0) (known (c .before) .0 .1) (known (c .before) .1)))
 
 pub demand-spec : {M : Type 1} → statement M
 demand-spec =
-    tie.close (tie.spec check-table-requires returns returns-2 units-due-requires returns-3)
+    tie.close
+    (tie.spec
+    check-table-requires
+    check-instant-requires
+    no-amount-requires
+    returns
+    units-due-requires
+    returns-2)

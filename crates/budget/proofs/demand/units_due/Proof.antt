@@ -1,7 +1,7 @@
 -- Demand of a table is summed as defined. The loop's invariant: the sum so far and the demand of the tasks from the present place on make the demand of all, and no task passed asked for more than twice the limit.
 use Prim.Native.Nat.{ℕ, _+_, _-_, _*_, _≤_}
 use mathlib.Core.Bool.{true}
-use mathlib.Core.List.{List, _∷_}
+use mathlib.Core.List.{List}
 use mathlib.Core.Path.{_≡_, sym, _∙_, ap}
 use native.Mathlib.Nat.{le-trans, le-of-eq, zero-add, add-zero, add-assoc}
 use native.Mathlib.Omega.{arith}
@@ -12,8 +12,8 @@ use Rattle.budget.specs.Demand.{demand, jobsBy}
 use Rattle.budget.specs.Limits.{limit, most-tasks}
 use Rattle.budget.specs.Task.{C, validTasks, tasksOf, noTask}
 use Rattle.budget.proofs.DemandLaws.{jobs-work}
-use Rattle.budget.proofs.Places.{length-mapped, from-place, from-end}
-use Rattle.budget.proofs.Valid.{ValidTask, valid-head, valid-tail, task-valid}
+use Rattle.budget.proofs.Places.{length-mapped, from-place, from-end, valid-from}
+use Rattle.budget.proofs.Valid.{ValidTask, task-valid}
 use Rattle.budget.proofs.demand.units_due.Statement.{statement}
 use Rattle.budget.proofs.demand.units_due.Tie as tie
 
@@ -45,14 +45,11 @@ module _ (c : tie.In-loop Inv-loop μ-loop) where
   abbrev asked : ℕ
   asked = jobsBy here (start .args .at) * C here
 
-  left-valid : validTasks (here ∷ rest) ≡ true
-  left-valid = rw (from-place _ _ (room start) _ (c .loop-test .taken)) at (c .before .loop .inv .2)
-
-  in-range : ValidTask here
-  in-range = valid-head here rest left-valid
+  valid : ValidTask here × (validTasks rest ≡ true)
+  valid = valid-from _ _ (room start) _ (c .loop-test .taken) (c .before .loop .inv .2)
 
   asked-bound : asked ≤ 2 * limit
-  asked-bound = omega (arith, jobs-work here in-range (start .args .at), start .pre .2)
+  asked-bound = omega (arith, jobs-work here (valid .0) (start .args .at), start .pre .2)
 
   whole : demand (tasksOf (start .args .table)) (start .args .at) ≡ c .before .loop .units + asked + demand rest (start .args .at)
   unfolding demand tasksOf
@@ -72,7 +69,7 @@ array-copy-out-units-of : tie.Need-array-copy-out-units-of Inv-loop μ-loop
 array-copy-out-units-of c = search needs
 
 units-of-requires : tie.Need-units-of-requires Inv-loop μ-loop
-units-of-requires c κs = (task-valid _ (in-range (c .before)), c .before .before .before .before .pre .2)
+units-of-requires c κs = (task-valid _ (valid (c .before) .0), c .before .before .before .before .pre .2)
 
 add-units : tie.Need-add-units Inv-loop μ-loop
 add-units c = let w = c .before .before in omega (arith, c .units-of .ensures, asked-bound w)
@@ -87,7 +84,7 @@ loop-again : tie.Need-loop-again Inv-loop μ-loop
 unfolding tasksOf
 loop-again c =
     let w = c .before .before in
-    (search needs, omega (arith, c .units-of .ensures, asked-bound w), valid-tail (here w) (rest w) (left-valid w), rw (c .units-of .ensures) (whole w))
+    (search needs, omega (arith, c .units-of .ensures, asked-bound w), valid w .1, rw (c .units-of .ensures) (whole w))
 
 returns : tie.Need-returns Inv-loop μ-loop
 unfolding demand tasksOf

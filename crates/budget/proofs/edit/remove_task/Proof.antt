@@ -1,12 +1,14 @@
 -- Removing a task answers as defined: the refusals in turn, or the tasks before the place and those after it copied into a table of zeros.
-use Prim.Native.Nat.{ℕ}
-use mathlib.Core.List.{[], _++_}
-use mathlib.Core.Path.{_≡_, sym, _∙_, ap, ap₂}
+use Prim.Native.Nat.{ℕ, _+_}
+use mathlib.Core.List.{List, [], _++_}
+use mathlib.Core.Path.{_≡_, sym, _∙_, ap}
 use native.Mathlib.Nat.{le-of-lt}
 use native.Mathlib.Numerals.{add-one}
 use native.Mathlib.Omega.{arith}
 use lib.ListN.{take, drop, length-take}
 use lib.Seq.{take-take}
+use Rattle.budget.specs.declared.task.Table.{Table}
+use Rattle.budget.specs.declared.task.Task.{Task}
 use Rattle.budget.specs.Edit.{removed}
 use Rattle.budget.specs.Task.{tasksOf, tableOf}
 use Rattle.budget.proofs.Edits.{given, removing-ranges, removing-place, removing-given}
@@ -15,6 +17,11 @@ use Rattle.budget.proofs.TableLaws.{tasks-are, returned, count-is, afte
 use borrow.Author.Needs.{needs}
 use Rattle.budget.proofs.edit.remove_task.Statement.{statement}
 use Rattle.budget.proofs.edit.remove_task.Tie as tie
+
+-- the tasks before a place and those after it, put together
+joined : (t r : Table) (ks : List Task) (n : ℕ) → t ≡ tableOf (take n ks) → r ≡ tableOf (tasksOf t ++ drop (n + 1) ks) → r ≡ tableOf (removed ks n)
+unfolding removed
+joined t r ks n e f = rw (tasks-are t _ e, add-one n) at f
 
 -- past the first test the component is in its ranges
 known : (c : tie.After-table) → InRange (c .before .before .before .args .component)
@@ -30,11 +37,10 @@ kept c =
 
 -- and those after it
 shorter : (c : tie.After-append-part2) → let a = c .before .before .before .before .before .before .before .args in c .append-part2 .result ≡ tableOf (removed (tasksOf (a .component .table)) (a .place))
-unfolding tasksOf removed
+unfolding tasksOf
 shorter c =
     let a = c .before .before .before .before .before .before .before .args in
-    let after = ap (λ (n : ℕ). drop n (tasksOf (a .component .table))) (add-one (a .place)) in
-    c .append-part2 .ensures ∙ ap tableOf (ap₂ _++_ (tasks-are _ _ (kept (c .before))) after)
+    joined _ _ (tasksOf (a .component .table)) (a .place) (kept (c .before)) (c .append-part2 .ensures)
 
 check-ranges-requires : tie.Need-check-ranges-requires
 check-ranges-requires c κs = search needs

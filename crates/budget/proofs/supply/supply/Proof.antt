@@ -1,34 +1,56 @@
--- Supply answers as defined: each return is the answer at the refusal found, and a supply that is counted is that of an interface in range.
-use mathlib.Core.Path.{sym, _∙_}
+-- Supply answers as defined: the refusal found, or the supply of an interface that is in range.
+use Prim.Native.Nat.{ℕ, _≤_}
+use mathlib.Core.Bool.{true}
+use mathlib.Core.Path.{_≡_, sym, _∙_, ap}
 use borrow.Author.Needs.{needs}
-use Rattle.budget.specs.Interface.{interfaceRefusal}
+use Rattle.budget.specs.Interface.{interfaceRefusal, validInterface}
+use Rattle.budget.specs.Limits.{limit}
 use Rattle.budget.specs.Supply.{supply, supplyRefusal, supplyAnswer}
-use Rattle.budget.proofs.Answers.{answer-refused, answer-late, answer-given, passed}
+use Rattle.budget.proofs.Answers.{passed, at-instant, instant-passed, answer-refused, supply-given}
 use Rattle.budget.proofs.supply.supply.Statement.{statement}
 use Rattle.budget.proofs.supply.supply.Tie as tie
+
+-- the refusal found is the one defined
+found : (c : tie.After-check-instant) → let a = c .before .before .args in c .check-instant .result ≡ supplyRefusal (a .interface) (a .t .0)
+unfolding supplyRefusal
+found c = c .check-instant .ensures ∙ ap (λ (n : ℕ). at-instant n (c .before .before .args .t .0)) (c .before .check-interface .ensures)
 
 check-interface-requires : tie.Need-check-interface-requires
 check-interface-requires c κs = search needs
 
-returns : tie.Need-returns
-unfolding supplyAnswer supplyRefusal
-returns c =
-    let a = c .before .before .args in
-    rw (← c .before .check-interface .ensures)
-    (sym (answer-refused _ (a .t .0) (supply (a .interface) (a .t .0)) (c .if1 .taken)))
+check-instant-requires : tie.Need-check-instant-requires
+check-instant-requires c κs = search needs
 
-returns-2 : tie.Need-returns-2
-unfolding supplyAnswer supplyRefusal
-returns-2 c = rw (← c .before .before .check-interface .ensures, c .before .if1 .left) (sym (answer-late _ _ (c .if2 .taken)))
+no-amount-requires : tie.Need-no-amount-requires
+no-amount-requires c κs = search needs
+
+returns : tie.Need-returns
+unfolding supplyAnswer
+returns c =
+    let e = found (c .before .before) in
+    let a = c .before .before .before .before .args in
+    c .no-amount .ensures ∙ rw e (sym (answer-refused (supplyRefusal (a .interface) (a .t .0)) (supply (a .interface) (a .t .0)) (λ z. c .before .if1 .taken (e ∙ z))))
+
+-- where there is none the interface and the instant are in range
+known : (c : tie.Else1) → let a = c .before .before .before .args in (validInterface (a .interface) ≡ true) × (a .t .0 ≤ limit)
+unfolding interfaceRefusal
+known c =
+    let p = instant-passed _ _ (sym (c .before .check-instant .ensures) ∙ c .if1 .left) in
+    (passed _ (sym (c .before .before .check-interface .ensures) ∙ p .0), p .1)
 
 units-by-requires : tie.Need-units-by-requires
-unfolding interfaceRefusal
-units-by-requires c κs = (passed _ (sym (c .before .before .check-interface .ensures) ∙ c .before .if1 .left), c .if2 .left)
+units-by-requires c κs = known c
 
-returns-3 : tie.Need-returns-3
-unfolding supplyAnswer supplyRefusal
-returns-3 c = rw (← c .before .before .before .check-interface .ensures, c .before .before .if1 .left, c .units-by .ensures) (sym (answer-given _ _ (c .before .if2 .left)))
+returns-2 : tie.Need-returns-2
+returns-2 c = rw (c .units-by .ensures) (sym (supply-given _ _ (known (c .before) .0) (known (c .before) .1)))
 
 pub supply-spec : {M : Type 1} → statement M
 supply-spec =
-    tie.close (tie.spec check-interface-requires returns returns-2 units-by-requires returns-3)
+    tie.close
+    (tie.spec
+    check-interface-requires
+    check-instant-requires
+    no-amount-requires
+    returns
+    units-by-requires
+    returns-2)
