@@ -11,3 +11,4 @@ pub mod ReadsBack
 pub mod Shape
 pub mod RoundTrips
 pub mod ReadLaws
+pub mod ReplyLaws

@@ -115,7 +115,7 @@ component-length c h =
     ∙ rw (head-length, tasks-length, places (c .table .count) (c .table .tasks) h)
 
 -- a buffer that is not refused has room
-room-given : (room at size : ℕ) → roomRefusal room at size ≡ 0 → at + size ≤ room
+pub room-given : (room at size : ℕ) → roomRefusal room at size ≡ 0 → at + size ≤ room
 unfolding roomRefusal
 room-given room at size =
     cases (λ (n : ℕ). n ≡ 0 → at + size ≤ room) (leb (at + size) room) (λ p e. leb-true (at + size) room p) (λ p e. absurd (omega (arith, e)))

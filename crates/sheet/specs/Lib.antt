@@ -5,3 +5,4 @@ pub mod Part
 pub mod Writing
 pub mod Reading
 pub mod RoundTrip
+pub mod Reply

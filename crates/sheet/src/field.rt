@@ -12,7 +12,7 @@ fn wide(byte: u8) -> u32
 }
 
 // The number of 2 bytes that begins at a place.
-pub fn number_at(bytes: &[u8], at: usize) -> u16
+pub(crate) fn number_at(bytes: &[u8], at: usize) -> u16
     requires { ⌜ at + 2 ≤ length (now bytes) ⌝ }
     ensures { λ r. ⌜ r ≡ field (now (bytes .entry)) at 2 ⌝ }
 {
@@ -23,7 +23,7 @@ pub fn number_at(bytes: &[u8], at: usize) -> u16
 }
 
 // The time of 4 bytes that begins at a place.
-pub fn time_at(bytes: &[u8], at: usize) -> u32
+pub(crate) fn time_at(bytes: &[u8], at: usize) -> u32
     requires { ⌜ at + 4 ≤ length (now bytes) ⌝ }
     ensures { λ r. ⌜ r ≡ field (now (bytes .entry)) at 4 ⌝ }
 {
@@ -38,7 +38,7 @@ pub fn time_at(bytes: &[u8], at: usize) -> u32
 }
 
 // Puts a number into the 2 bytes from a place on.
-pub fn put_number(part: &mut [u8], at: usize, value: u16)
+pub(crate) fn put_number(part: &mut [u8], at: usize, value: u16)
     requires { ⌜ at + 2 ≤ length (now part) ⌝ }
     ensures { λ _. ⌜ now (part .exit) ≡ sets (now (part .entry)) at (encode 2 value) ⌝ }
 {
@@ -49,7 +49,7 @@ pub fn put_number(part: &mut [u8], at: usize, value: u16)
 }
 
 // Puts a time into the 4 bytes from a place on.
-pub fn put_time(part: &mut [u8], at: usize, value: u32)
+pub(crate) fn put_time(part: &mut [u8], at: usize, value: u32)
     requires { ⌜ at + 4 ≤ length (now part) ⌝ }
     ensures { λ _. ⌜ now (part .exit) ≡ sets (now (part .entry)) at (encode 4 value) ⌝ }
 {

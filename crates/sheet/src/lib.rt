@@ -4,4 +4,5 @@ pub mod field;
 pub mod layout;
 pub mod part;
 pub mod read;
+pub mod reply;
 pub mod write;

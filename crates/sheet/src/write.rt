@@ -80,7 +80,7 @@ fn put_end(part: &mut [u8], count: u16)
     put_number(part, 4, count);
 }
 
-fn check_room(room: usize, at: usize, size: usize) -> u16
+pub(crate) fn check_room(room: usize, at: usize, size: usize) -> u16
     ensures { λ r. ⌜ r ≡ roomRefusal room at size ⌝ }
 {
     if room < at {
