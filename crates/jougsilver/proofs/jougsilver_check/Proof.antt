@@ -1,0 +1,29 @@
+-- What the sheet was answered is what the writer is handed.
+use mathlib.Core.Path.{ap}
+use Rattle.sheet.specs.declared.write.Written.{Written}
+use Rattle.sheet.specs.Writing.{written}
+use borrow.Author.Needs.{needs}
+use Rattle.jougsilver.proofs.jougsilver_check.Statement.{statement}
+use Rattle.jougsilver.proofs.jougsilver_check.Tie as tie
+
+check-sheet-requires : tie.Need-check-sheet-requires
+check-sheet-requires c κs = search needs
+
+write-checked-requires : tie.Need-write-checked-requires
+write-checked-requires c κs = search needs
+
+cast-result : tie.Need-cast-result
+cast-result c = search needs
+
+same-length : tie.Need-same-length
+same-length c = search needs
+
+returns : tie.Need-returns
+unfolding written
+returns c = let w = c .before .before .before .write-checked in
+    (ap (λ (r : Written). r .refusal) (w .ensures .0), rw (← c .before .before .before .before .before .check-sheet .ensures) (w .ensures .1))
+
+pub jougsilver-check-spec : {M : Type 1} → statement M
+jougsilver-check-spec =
+    tie.close
+    (tie.spec check-sheet-requires write-checked-requires cast-result same-length returns)

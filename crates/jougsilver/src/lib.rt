@@ -1,0 +1,19 @@
+// The calls of the host, a C program: include/jougsilver.h is their other side. A `&[u8]` passes as a pointer and then a length.
+use sheet::check::check_sheet;
+use sheet::reply::write_checked;
+ghost use mathlib.Core.Path.{_≡_};
+ghost use lib.ListN.{length};
+ghost use Rattle.jougsilver.specs.Host.{checkReply, checkRefusal};
+ghost use Rattle.sheet.specs.Writing.{buffered};
+
+// Checks a whole sheet and puts what it was answered into the host's buffer from a place on. That a sheet is refused is the answer here, so only the
+// room can be refused.
+#[no_mangle]
+pub extern "C" fn jougsilver_check(sheet: &[u8], reply: &mut [u8], at: usize) -> u32
+    ensures answer { λ r. ⌜ r ≡ checkRefusal (length (now (reply .entry))) at ⌝ }
+    ensures bytes { λ _. ⌜ now (reply .exit) ≡ buffered (checkRefusal (length (now (reply .entry))) at) (now (reply .entry)) at (checkReply (now (sheet .entry))) ⌝ }
+{
+    let checked = check_sheet(sheet);
+    let written = write_checked(reply, at, checked);
+    written.refusal as u32
+}
