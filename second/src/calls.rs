@@ -117,7 +117,75 @@ pub fn component_text(component: &Component) -> String {
     format!("{} {capacity} {} {} {}", component.number, component.period, component.deadline, table_text(&component.table))
 }
 
-/// `ok` or the refusal, and then the values, which a refused answer has too.
+/// A call, taken apart.
+#[derive(Clone, Debug)]
+pub enum Call {
+    CheckTask(Task),
+    CheckTable(Table),
+    CheckInterface(Interface),
+    CheckComponent(Component),
+    Dedicated,
+    CommonDivisor(u32, u32),
+    CommonPeriod(Component),
+    Demand(Table, u32),
+    Supply(Interface, u32),
+    AddTask(Component, Task),
+    RemoveTask(Component, u64),
+    Legal(Interface, u32, Vec<u8>),
+    Walk(Table, Jobs, Vec<u8>, u64),
+    Verdict(Component),
+    Margin(Component),
+    Capacity(Component),
+    Sheet(Vec<u8>),
+    Part(Vec<u8>, u64),
+    Read(Vec<u8>, u64),
+    Write(Component, Vec<u8>, u64),
+    WriteEnd(u64, Vec<u8>, u64),
+    Host(Vec<u8>, u64, Vec<u8>, u64),
+    HostCheck(Vec<u8>, Vec<u8>, u64),
+}
+
+/// The call of a line.
+pub fn parse(line: &str) -> Parsed<Call> {
+    let mut words = Words { rest: line.split(' ') };
+    let w = &mut words;
+    let call = match w.word()? {
+        "check_task" => Call::CheckTask(w.task()?),
+        "check_table" => Call::CheckTable(w.table()?),
+        "check_interface" => Call::CheckInterface(w.interface()?),
+        "check_component" => Call::CheckComponent(w.component()?),
+        "dedicated" => Call::Dedicated,
+        "common_divisor" => Call::CommonDivisor(w.long()?, w.long()?),
+        "common_period" => Call::CommonPeriod(w.component()?),
+        "demand" => Call::Demand(w.table()?, w.long()?),
+        "supply" => Call::Supply(w.interface()?, w.long()?),
+        "add_task" => Call::AddTask(w.component()?, w.task()?),
+        "remove_task" => Call::RemoveTask(w.component()?, w.place()?),
+        "legal" => Call::Legal(w.interface()?, w.long()?, w.row()?),
+        "walk" => {
+            let table = w.table()?;
+            let jobs = Jobs { tasks: w.list()?, releases: w.list()?, works: w.list()? };
+            Call::Walk(table, jobs, w.row()?, w.number(2_048)?)
+        }
+        "verdict" => Call::Verdict(w.component()?),
+        "margin" => Call::Margin(w.component()?),
+        "capacity" => Call::Capacity(w.component()?),
+        "sheet" => Call::Sheet(w.row()?),
+        "part" => Call::Part(w.row()?, w.place()?),
+        "read" => Call::Read(w.row()?, w.place()?),
+        "write" => Call::Write(w.component()?, w.buffer()?, w.place()?),
+        "write_end" => Call::WriteEnd(w.place()?, w.buffer()?, w.place()?),
+        "host" => Call::Host(w.row()?, w.place()?, w.buffer()?, w.place()?),
+        "host_check" => Call::HostCheck(w.row()?, w.buffer()?, w.place()?),
+        other => return Err(format!("`{other}` is no call")),
+    };
+    match words.rest.next() {
+        Some(_) => Err("the line goes on after the call".to_string()),
+        None => Ok(call),
+    }
+}
+
+/// `ok` and the values, or the refusal and what stands for the values then.
 fn answered<T>(answer: Result<T, Refusal>, refused: T, values: impl Fn(T) -> String) -> String {
     match answer {
         Ok(value) => format!("ok {}", values(value)),
@@ -125,12 +193,28 @@ fn answered<T>(answer: Result<T, Refusal>, refused: T, values: impl Fn(T) -> Str
     }
 }
 
+/// `ok` and the values, or the refusal alone.
+fn answered_alone<T>(answer: Result<T, Refusal>, values: impl Fn(T) -> String) -> String {
+    match answer {
+        Ok(value) => format!("ok {}", values(value)),
+        Err(refusal) => format!("refused {refusal}"),
+    }
+}
+
+/// `ok` and the values, or the refusal with its place and what stands for the values then.
+fn faulted<T>(answer: Result<T, sheet::Fault>, refused: T, values: impl Fn(T) -> String) -> String {
+    match answer {
+        Ok(value) => format!("ok {}", values(value)),
+        Err((refusal, place)) => format!("refused {refusal} {place} {}", values(refused)),
+    }
+}
+
 fn checked(answer: Result<(), Refusal>) -> String {
     answer.map_or_else(|refusal| format!("refused {refusal}"), |()| "ok".to_string())
 }
 
-fn edited(answer: Result<Component, Refusal>) -> String {
-    answered(answer, Component::refused(), |component| format!("{} zero", component_text(&component)))
+fn whole(component: Component) -> String {
+    format!("{} zero", component_text(&component))
 }
 
 fn verdict_text((verdict, capacity): (Verdict, u32)) -> String {
@@ -145,91 +229,72 @@ fn margin_text(margin: judge::Margin) -> String {
     margin.map_or("none".to_string(), |(least, instant)| format!("{least} {instant}"))
 }
 
-fn walk(words: &mut Words) -> Parsed<String> {
-    let table = words.table()?;
-    let jobs = Jobs { tasks: words.list()?, releases: words.list()?, works: words.list()? };
-    let row = words.row()?;
-    let length = words.number(2_048)?;
+fn walked_text(walked: run::Walked) -> String {
+    let miss = walked.miss.map_or("none".to_string(), |(instant, task)| format!("miss {instant} {task}"));
+    let left: String = walked.left.iter().map(|work| format!(" {work}")).collect();
+    format!("{miss} {} {} {}{left}", walked.served, walked.idle, walked.left.len())
+}
+
+fn walk(table: &Table, jobs: &Jobs, row: &[u8], length: u64) -> String {
     let untouched = run::Walked { miss: None, served: 0, idle: 0, left: vec![LEFT_NUMBER; length as usize] };
-    Ok(answered(run::answer(&table, &jobs, &row, length), untouched, |walked| {
-        let miss = walked.miss.map_or("none".to_string(), |(instant, task)| format!("miss {instant} {task}"));
-        let left: String = walked.left.iter().map(|work| format!(" {work}")).collect();
-        format!("{miss} {} {} {}{left}", walked.served, walked.idle, walked.left.len())
-    }))
+    answered(run::answer(table, jobs, row, length), untouched, walked_text)
 }
 
-/// `ok` or the refusal with its place.
-fn faulted<T>(answer: Result<T, sheet::Fault>, refused: T, values: impl Fn(T) -> String) -> String {
-    match answer {
-        Ok(value) => format!("ok {}", values(value)),
-        Err((refusal, place)) => format!("refused {refusal} {place} {}", values(refused)),
-    }
+fn part(row: &[u8], place: u64) -> String {
+    let part = sheet::at_place(row, place).map(|read| row[read.start..read.end].to_vec());
+    faulted(part, vec![], |bytes| row_text(&bytes))
 }
 
-fn written(answer: Result<u64, Refusal>, buffer: &[u8]) -> String {
-    answered(answer, 0, |place| format!("{place} {}", row_text(buffer)))
+fn written(mut buffer: Vec<u8>, write: impl Fn(&mut [u8]) -> Result<u64, Refusal>) -> String {
+    let place = write(&mut buffer);
+    answered(place, 0, |place| format!("{place} {}", row_text(&buffer)))
 }
 
-/// The answer to one call.
-pub fn answer(line: &str) -> Parsed<String> {
-    let mut words = Words { rest: line.split(' ') };
-    let w = &mut words;
-    let text = match w.word()? {
-        "check_task" => checked(w.task()?.check()),
-        "check_table" => checked(w.table()?.check()),
-        "check_interface" => checked(w.interface()?.check()),
-        "check_component" => checked(w.component()?.check()),
-        "dedicated" => "ok 1 1 1".to_string(),
-        "common_divisor" => format!("ok {}", common_divisor(w.long()? as u64, w.long()? as u64)),
-        "common_period" => answered(w.component()?.common_period(), 0, |length| length.to_string()),
-        "demand" => answered(demand::answer(&w.table()?, w.long()? as u64), 0, |units| units.to_string()),
-        "supply" => answered(supply::answer(&w.interface()?, w.long()? as u64), 0, |units| units.to_string()),
-        "add_task" => edited(add_task(&w.component()?, w.task()?)),
-        "remove_task" => edited(remove_task(&w.component()?, w.place()?)),
-        "legal" => answered(trace::answer(&w.interface()?, w.long()? as u64, &w.row()?), false, |yes| if yes { "yes" } else { "no" }.to_string()),
-        "walk" => walk(w)?,
-        "verdict" => answered(judge::verdict(&w.component()?), (Verdict::None, 0), verdict_text),
-        "margin" => answered(judge::margin(&w.component()?), None, margin_text),
-        "capacity" => answered(judge::capacity(&w.component()?), None, |units| units.map_or("none".to_string(), |units| units.to_string())),
-        "sheet" => faulted(sheet::read(&w.row()?).map(|all| all.len()), 0, |count| count.to_string()),
-        "part" => {
-            let row = w.row()?;
-            let part = sheet::at_place(&row, w.place()?).map(|read| row[read.start..read.end].to_vec());
-            faulted(part, vec![], |bytes| row_text(&bytes))
+/// The number that a call of the host returns, and its buffer.
+fn replied(mut buffer: Vec<u8>, call: impl Fn(&mut [u8]) -> Refusal) -> String {
+    let refusal = call(&mut buffer);
+    format!("{refusal} {}", row_text(&buffer))
+}
+
+/// The answer to a call.
+pub fn answer(call: Call) -> String {
+    match call {
+        Call::CheckTask(task) => checked(task.check()),
+        Call::CheckTable(table) => checked(table.check()),
+        Call::CheckInterface(interface) => checked(interface.check()),
+        Call::CheckComponent(component) => checked(component.common_period().map(|_| ())),
+        Call::Dedicated => "ok 1 1 1".to_string(),
+        Call::CommonDivisor(a, b) => format!("ok {}", common_divisor(a as u64, b as u64)),
+        Call::CommonPeriod(component) => answered(component.common_period(), 0, |length| length.to_string()),
+        Call::Demand(table, t) => answered(demand::answer(&table, t as u64), 0, |units| units.to_string()),
+        Call::Supply(interface, t) => answered(supply::answer(&interface, t as u64), 0, |units| units.to_string()),
+        Call::AddTask(component, task) => answered(add_task(&component, task), Component::refused(), whole),
+        Call::RemoveTask(component, place) => answered(remove_task(&component, place), Component::refused(), whole),
+        Call::Legal(interface, offset, row) => {
+            answered(trace::answer(&interface, offset as u64, &row), false, |yes| if yes { "yes" } else { "no" }.to_string())
         }
-        "read" => {
-            let read = sheet::at_place(&w.row()?, w.place()?).map(|read| read.component);
-            faulted(read, Component::refused(), |component| format!("{} zero", component_text(&component)))
+        Call::Walk(table, jobs, row, length) => walk(&table, &jobs, &row, length),
+        Call::Verdict(component) => answered_alone(judge::verdict(&component), verdict_text),
+        Call::Margin(component) => answered_alone(judge::margin(&component), margin_text),
+        Call::Capacity(component) => {
+            answered_alone(judge::smallest(&component), |units| units.map_or("none".to_string(), |units| units.to_string()))
         }
-        "write" => {
-            let (component, mut buffer) = (w.component()?, w.buffer()?);
-            let place = sheet::write_component(&component, &mut buffer, w.place()?);
-            written(place, &buffer)
-        }
-        "write_end" => {
-            let (count, mut buffer) = (w.number(u16::MAX as u64)?, w.buffer()?);
-            let place = sheet::write_end(count, &mut buffer, w.place()?);
-            written(place, &buffer)
-        }
-        "host" => {
-            let (row, place, mut buffer) = (w.row()?, w.place()?, w.buffer()?);
-            let refusal = sheet::host_call(&row, place, &mut buffer, w.place()?);
-            format!("{refusal} {}", row_text(&buffer))
-        }
-        other => return Err(format!("`{other}` is no call")),
-    };
-    match words.rest.next() {
-        Some(_) => Err("the line goes on after the call".to_string()),
-        None => Ok(text),
+        Call::Sheet(row) => faulted(sheet::read(&row).map(|all| all.len()), 0, |count| count.to_string()),
+        Call::Part(row, place) => part(&row, place),
+        Call::Read(row, place) => faulted(sheet::at_place(&row, place).map(|read| read.component), Component::refused(), whole),
+        Call::Write(component, buffer, at) => written(buffer, |bytes| sheet::write_component(&component, bytes, at)),
+        Call::WriteEnd(count, buffer, at) => written(buffer, |bytes| sheet::write_end(count, bytes, at)),
+        Call::Host(row, place, buffer, at) => replied(buffer, |bytes| sheet::host_call(&row, place, bytes, at)),
+        Call::HostCheck(row, buffer, at) => replied(buffer, |bytes| sheet::host_check(&row, bytes, at)),
     }
 }
 
 #[cfg(test)]
 mod tests {
-    use super::answer;
+    use super::{answer, parse};
 
     fn holds(call: &str, expected: &str) {
-        assert_eq!(answer(call).as_deref(), Ok(expected), "{call}");
+        assert_eq!(parse(call).map(answer).as_deref(), Ok(expected), "{call}");
     }
 
     #[test]
@@ -257,6 +322,8 @@ mod tests {
         holds("verdict 1 asked 6 4 1 8 2 7", "ok accepted 3");
         holds("margin 1 asked 6 4 1 8 2 7", "ok 1 7");
         holds("capacity 1 asked 6 4 1 4 2 2", "ok none");
+        holds("capacity 1 stated 4 6 4 1 8 2 7", "ok 3");
+        holds("capacity 1 asked 3 3 1 1048576 1 1", "refused 10");
         holds("sheet -", "refused 1 0 0");
         holds("sheet 060003000000", "ok 0");
         holds("part 060003000000 0", "refused 15 0 -");
@@ -264,13 +331,15 @@ mod tests {
         holds("write_end 256 8 1", "ok 7 a5060003000001a5");
         holds("write_end 257 8 9", "refused 9 0 a5a5a5a5a5a5a5a5");
         holds("host 060003000000 0 2 0", "15 a5a5");
+        holds("host_check 0600030000 14 1", "0 a5010000000000000000000000a5");
+        holds("host_check 060003000000 11 0", "11 a5a5a5a5a5a5a5a5a5a5a5");
     }
 
     #[test]
     fn what_is_no_call_is_named() {
-        assert!(answer("supply 6 2 4").is_err());
-        assert!(answer("supply 6 2 4 8 9").is_err());
-        assert!(answer("legal 6 2 4 0 0").is_err());
-        assert!(answer("suply 6 2 4 8").is_err());
+        assert!(parse("supply 6 2 4").is_err());
+        assert!(parse("supply 6 2 4 8 9").is_err());
+        assert!(parse("legal 6 2 4 0 0").is_err());
+        assert!(parse("suply 6 2 4 8").is_err());
     }
 }

@@ -1,5 +1,8 @@
-//! What a set of calls reaches: each refusal of each operation, each kind of answer, ties and the ends of ranges.
+//! What a set of calls reaches: each refusal of each operation, each kind of answer, ties, and both ends of each range.
 
+use crate::calls::{self, Call};
+use crate::numbers::{Capacity, Component, Interface, Table, Task, LIMIT, TASKS};
+use crate::{demand, run, sheet, supply};
 use std::collections::BTreeMap;
 
 #[derive(Default)]
@@ -8,11 +11,11 @@ pub struct Seen {
 }
 
 /// For each kind of call the refusals that the rules give it.
-const REFUSALS: [(&str, &[u16]); 20] = [
+const REFUSALS: [(&str, &[u16]); 21] = [
     ("check_task", &[9]),
     ("check_table", &[6, 9]),
     ("check_interface", &[9]),
-    ("check_component", &[6, 9]),
+    ("check_component", &[6, 9, 10]),
     ("common_period", &[6, 9, 10]),
     ("demand", &[6, 9]),
     ("supply", &[9]),
@@ -29,10 +32,12 @@ const REFUSALS: [(&str, &[u16]); 20] = [
     ("write", &[6, 9, 11]),
     ("write_end", &[9, 11]),
     ("host", &[1, 2, 3, 4, 5, 6, 7, 8, 9, 10, 11, 14, 15]),
+    ("host_check", &[11]),
 ];
 
-/// The answers that are no refusals, by what stands in them.
-const ANSWERS: [&str; 24] = [
+/// The answers that are no refusals, by what stands in them; ties; and the ends of ranges, the last one taken and the first
+/// one refused.
+const OTHERS: [&str; 76] = [
     "check_task ok",
     "check_table ok",
     "check_interface ok",
@@ -52,38 +57,247 @@ const ANSWERS: [&str; 24] = [
     "verdict ok none",
     "margin ok none",
     "margin ok negative",
-    "margin ok positive or zero",
-    "capacity ok",
+    "margin ok zero",
+    "margin ok positive",
+    "capacity ok found",
+    "capacity ok none",
+    "sheet ok",
+    "part ok",
+    "read ok",
+    "write ok",
+    "write_end ok",
     "host code 0",
     "host code 1",
     "host code 2",
+    "host no margin",
+    "host_check taken",
+    "host_check refused sheet",
+    "tie: a unit between two jobs of one deadline",
+    "tie: two tasks late at the miss",
+    "tie: two step instants with the least margin",
+    "walk: a deadline at the trace's end",
+    "walk: a deadline after the trace's end",
+    "task: T is 1",
+    "task: T is 1048576",
+    "task: T is 1048577",
+    "task: C is 0",
+    "task: C is 1",
+    "task: C is D",
+    "task: C is D + 1",
+    "task: D is T",
+    "task: D is T + 1",
+    "interface: Π is 1",
+    "interface: Π is 1048576",
+    "interface: Π is 1048577",
+    "interface: Θ is 0",
+    "interface: Θ is Δ",
+    "interface: Θ is Δ + 1",
+    "interface: Δ is 0",
+    "interface: Δ is Π",
+    "interface: Δ is Π + 1",
+    "table: 0 tasks",
+    "table: 64 tasks",
+    "table: 65 tasks",
+    "number: 0",
+    "number: 65535",
+    "t: 0",
+    "t: 1048576",
+    "t: 1048577",
+    "L: 1048576",
+    "offset: 0",
+    "offset: Π - 1",
+    "offset: Π",
+    "trace: 0, 65536 and 65537 bytes",
+    "jobs: 0, 1024 and 1025",
+    "sheet: 65536 and 65537 bytes",
+    "sheet: 0, 256 and 257 components",
+    "write: just enough room",
+    "write: one byte too few",
+    "write: a place past the buffer",
+];
+
+/// Those of OTHERS that are reached when each of several is.
+const SEVERAL: [(&str, &[&str]); 4] = [
+    ("trace: 0, 65536 and 65537 bytes", &["trace 0", "trace 65536", "trace 65537"]),
+    ("jobs: 0, 1024 and 1025", &["jobs 0", "jobs 1024", "jobs 1025"]),
+    ("sheet: 65536 and 65537 bytes", &["sheet 65536", "sheet 65537"]),
+    ("sheet: 0, 256 and 257 components", &["components 0", "components 256", "components 257"]),
 ];
 
 impl Seen {
-    fn add(&mut self, what: String) {
-        *self.counts.entry(what).or_default() += 1;
+    fn add(&mut self, what: &str) {
+        *self.counts.entry(what.to_string()).or_default() += 1;
     }
 
-    /// Counts one call with its answer.
-    pub fn count(&mut self, call: &str, answer: &str) {
-        let kind = call.split(' ').next().unwrap_or("");
-        let words: Vec<&str> = answer.split(' ').collect();
-        match (kind, words.as_slice()) {
-            ("host", ["0", buffer]) => self.host(call, buffer),
-            ("host", [refusal, _]) => self.add(format!("host refused {refusal}")),
-            (_, ["refused", refusal, ..]) => self.add(format!("{kind} refused {refusal}")),
-            ("legal" | "walk" | "verdict", ["ok", word, ..]) => self.add(format!("{kind} ok {word}")),
-            ("margin", ["ok", "none"]) => self.add("margin ok none".to_string()),
-            ("margin", ["ok", least, ..]) if least.starts_with('-') => self.add("margin ok negative".to_string()),
-            ("margin", _) => self.add("margin ok positive or zero".to_string()),
-            _ => self.add(format!("{kind} ok")),
+    fn add_if(&mut self, reached: bool, what: &str) {
+        if reached {
+            self.add(what);
         }
     }
 
-    fn host(&mut self, call: &str, buffer: &str) {
-        let at = call.rsplit(' ').next().and_then(|word| word.parse::<usize>().ok()).unwrap_or(0);
-        let code = &buffer[2 * (at + 6)..2 * (at + 6) + 2];
-        self.add(format!("host code {}", code.trim_start_matches('0').parse::<u8>().unwrap_or(0)));
+    /// Counts one call with its answer.
+    pub fn count(&mut self, call: Call) {
+        let kind = kind(&call);
+        self.ends(&call);
+        self.ties(&call);
+        let at = if let Call::Host(.., at) | Call::HostCheck(.., at) = &call { *at as usize } else { 0 };
+        let answer = calls::answer(call);
+        let words: Vec<&str> = answer.split(' ').collect();
+        match (kind, words.as_slice()) {
+            ("host", ["0", buffer]) => {
+                self.add(&format!("host code {}", &buffer[2 * (at + 6) + 1..2 * (at + 6) + 2]));
+                self.add_if(buffer[2 * (at + 20)..2 * (at + 24)] == *"00000000", "host no margin");
+            }
+            ("host_check", ["0", buffer]) => {
+                let taken = buffer[2 * at..2 * (at + 4)] == *"00000000";
+                self.add(if taken { "host_check taken" } else { "host_check refused sheet" });
+            }
+            ("host" | "host_check", [refusal, _]) => self.add(&format!("{kind} refused {refusal}")),
+            (_, ["refused", refusal, ..]) => self.add(&format!("{kind} refused {refusal}")),
+            ("legal" | "walk" | "verdict", ["ok", word, ..]) => self.add(&format!("{kind} ok {word}")),
+            ("margin" | "capacity", ["ok", "none"]) => self.add(&format!("{kind} ok none")),
+            ("capacity", _) => self.add("capacity ok found"),
+            ("margin", ["ok", "0", _]) => self.add("margin ok zero"),
+            ("margin", ["ok", least, _]) => self.add(if least.starts_with('-') { "margin ok negative" } else { "margin ok positive" }),
+            _ => self.add(&format!("{kind} ok")),
+        }
+    }
+
+    fn task(&mut self, task: &Task) {
+        self.add_if(task.period == 1, "task: T is 1");
+        self.add_if(task.period as u64 == LIMIT, "task: T is 1048576");
+        self.add_if(task.period as u64 == LIMIT + 1, "task: T is 1048577");
+        self.add_if(task.work == 0, "task: C is 0");
+        self.add_if(task.work == 1, "task: C is 1");
+        self.add_if(task.work == task.deadline, "task: C is D");
+        self.add_if(task.work as u64 == task.deadline as u64 + 1, "task: C is D + 1");
+        self.add_if(task.deadline == task.period, "task: D is T");
+        self.add_if(task.deadline as u64 == task.period as u64 + 1, "task: D is T + 1");
+    }
+
+    fn table(&mut self, table: &Table) {
+        self.add_if(table.count == 0, "table: 0 tasks");
+        self.add_if(table.count == TASKS, "table: 64 tasks");
+        self.add_if(table.count == TASKS + 1, "table: 65 tasks");
+        table.tasks.iter().for_each(|task| self.task(task));
+    }
+
+    fn interface(&mut self, interface: &Interface) {
+        let (period, capacity, deadline) = (interface.period as u64, interface.capacity as u64, interface.deadline as u64);
+        self.add_if(period == 1, "interface: Π is 1");
+        self.add_if(period == LIMIT, "interface: Π is 1048576");
+        self.add_if(period == LIMIT + 1, "interface: Π is 1048577");
+        self.add_if(capacity == 0, "interface: Θ is 0");
+        self.add_if(capacity == deadline, "interface: Θ is Δ");
+        self.add_if(capacity == deadline + 1, "interface: Θ is Δ + 1");
+        self.add_if(deadline == 0, "interface: Δ is 0");
+        self.add_if(deadline == period, "interface: Δ is Π");
+        self.add_if(deadline == period + 1, "interface: Δ is Π + 1");
+    }
+
+    fn component(&mut self, component: &Component) {
+        self.add_if(component.number == 0, "number: 0");
+        self.add_if(component.number == u16::MAX, "number: 65535");
+        if let Capacity::Stated(units) = component.capacity {
+            self.interface(&component.interface(units));
+        }
+        self.table(&component.table);
+        self.add_if(component.common_period() == Ok(LIMIT), "L: 1048576");
+    }
+
+    fn instant(&mut self, t: u64) {
+        self.add_if(t == 0, "t: 0");
+        self.add_if(t == LIMIT, "t: 1048576");
+        self.add_if(t == LIMIT + 1, "t: 1048577");
+    }
+
+    fn sheet(&mut self, row: &[u8]) {
+        self.add(&format!("sheet {}", row.len()));
+        match sheet::read(row) {
+            Ok(all) => self.add(&format!("components {}", all.len())),
+            Err((7, _)) => self.add("components 257"),
+            Err(_) => {}
+        }
+    }
+
+    fn room(&mut self, need: usize, buffer: &[u8], at: u64) {
+        let left = (buffer.len() as u64).checked_sub(at);
+        self.add_if(left == Some(need as u64), "write: just enough room");
+        self.add_if(left == Some(need as u64 - 1), "write: one byte too few");
+        self.add_if(left.is_none(), "write: a place past the buffer");
+    }
+
+    /// The ends of ranges that a call stands at.
+    fn ends(&mut self, call: &Call) {
+        match call {
+            Call::CheckTask(task) => self.task(task),
+            Call::CheckTable(table) => self.table(table),
+            Call::CheckInterface(interface) => self.interface(interface),
+            Call::CheckComponent(component) | Call::CommonPeriod(component) => self.component(component),
+            Call::Verdict(component) | Call::Margin(component) | Call::Capacity(component) => self.component(component),
+            Call::AddTask(component, _) | Call::RemoveTask(component, _) => self.component(component),
+            Call::Demand(table, t) => {
+                self.table(table);
+                self.instant(*t as u64);
+            }
+            Call::Supply(interface, t) => {
+                self.interface(interface);
+                self.instant(*t as u64);
+            }
+            Call::Legal(interface, offset, row) => {
+                self.add(&format!("trace {}", row.len()));
+                self.add_if(*offset == 0, "offset: 0");
+                self.add_if(*offset as u64 + 1 == interface.period as u64, "offset: Π - 1");
+                self.add_if(*offset == interface.period, "offset: Π");
+            }
+            Call::Walk(_, jobs, row, _) => {
+                self.add(&format!("trace {}", row.len()));
+                self.add(&format!("jobs {}", jobs.tasks.len()));
+            }
+            Call::Sheet(row) | Call::Part(row, _) | Call::Read(row, _) => self.sheet(row),
+            Call::Write(component, buffer, at) if component.check().is_ok() => self.room(sheet::component_bytes(component).len(), buffer, *at),
+            Call::WriteEnd(_, buffer, at) => self.room(6, buffer, *at),
+            Call::Host(row, _, buffer, at) => {
+                self.sheet(row);
+                self.room(sheet::REPLY, buffer, *at);
+            }
+            Call::HostCheck(row, buffer, at) => {
+                self.sheet(row);
+                self.room(12, buffer, *at);
+            }
+            _ => {}
+        }
+    }
+
+    /// The ties that a call has to settle.
+    fn ties(&mut self, call: &Call) {
+        match call {
+            Call::Walk(table, jobs, row, left) if run::answer(table, jobs, row, *left).is_ok() => {
+                let (between, late) = run::ties(table, jobs, row);
+                self.add_if(between, "tie: a unit between two jobs of one deadline");
+                self.add_if(late, "tie: two tasks late at the miss");
+                let end = row.len() as u64;
+                let deadline = |job: usize| jobs.releases[job] as u64 + table.tasks[jobs.tasks[job] as usize].deadline as u64;
+                self.add_if((0..jobs.tasks.len()).any(|job| deadline(job) == end), "walk: a deadline at the trace's end");
+                self.add_if((0..jobs.tasks.len()).any(|job| deadline(job) > end), "walk: a deadline after the trace's end");
+            }
+            Call::Margin(component) => {
+                let (Capacity::Stated(units), Ok(common)) = (component.capacity, component.common_period()) else { return };
+                let (interface, table) = (component.interface(units), &component.table);
+                let steps = (1..=common.min(10_000)).filter(|&t| demand::demand(table, t) > demand::demand(table, t - 1));
+                let margins: Vec<i64> = steps.map(|t| supply::supply(&interface, t) as i64 - demand::demand(table, t) as i64).collect();
+                let least = margins.iter().min();
+                self.add_if(margins.iter().filter(|margin| Some(*margin) == least).count() > 1, "tie: two step instants with the least margin");
+            }
+            _ => {}
+        }
+    }
+
+    fn reached(&self, what: &str) -> u64 {
+        match SEVERAL.iter().find(|(several, _)| *several == what) {
+            Some((_, each)) => each.iter().map(|one| self.reached(one)).min().unwrap_or(0),
+            None => self.counts.get(what).copied().unwrap_or(0),
+        }
     }
 
     /// A line for each thing to be reached with its count, and how many were not reached.
@@ -91,11 +305,39 @@ impl Seen {
         let refusals = REFUSALS.iter().flat_map(|(kind, numbers)| numbers.iter().map(move |number| format!("{kind} refused {number}")));
         let mut text = String::new();
         let mut missing = 0;
-        for what in ANSWERS.iter().map(|what| what.to_string()).chain(refusals) {
-            let count = self.counts.get(&what).copied().unwrap_or(0);
+        for what in OTHERS.iter().map(|what| what.to_string()).chain(refusals) {
+            let count = self.reached(&what);
             missing += (count == 0) as usize;
             text += &format!("{count:>8} {what}\n");
         }
         (text, missing)
+    }
+}
+
+fn kind(call: &Call) -> &'static str {
+    match call {
+        Call::CheckTask(..) => "check_task",
+        Call::CheckTable(..) => "check_table",
+        Call::CheckInterface(..) => "check_interface",
+        Call::CheckComponent(..) => "check_component",
+        Call::Dedicated => "dedicated",
+        Call::CommonDivisor(..) => "common_divisor",
+        Call::CommonPeriod(..) => "common_period",
+        Call::Demand(..) => "demand",
+        Call::Supply(..) => "supply",
+        Call::AddTask(..) => "add_task",
+        Call::RemoveTask(..) => "remove_task",
+        Call::Legal(..) => "legal",
+        Call::Walk(..) => "walk",
+        Call::Verdict(..) => "verdict",
+        Call::Margin(..) => "margin",
+        Call::Capacity(..) => "capacity",
+        Call::Sheet(..) => "sheet",
+        Call::Part(..) => "part",
+        Call::Read(..) => "read",
+        Call::Write(..) => "write",
+        Call::WriteEnd(..) => "write_end",
+        Call::Host(..) => "host",
+        Call::HostCheck(..) => "host_check",
     }
 }

@@ -6,7 +6,7 @@ use crate::numbers::{Capacity, Component, Interface, Table, Task, LIMIT};
 use crate::{sheet, trace};
 
 /// The kinds of call.
-pub const KINDS: [&str; 21] = [
+pub const KINDS: [&str; 22] = [
     "check_task",
     "check_table",
     "check_interface",
@@ -28,6 +28,7 @@ pub const KINDS: [&str; 21] = [
     "write",
     "write_end",
     "host",
+    "host_check",
 ];
 
 /// A call of a kind, or nothing where there is no such kind.
@@ -50,7 +51,8 @@ pub fn call(c: &mut Chance, kind: &str) -> Option<String> {
         }
         "legal" => legal(c),
         "walk" => walk(c),
-        "verdict" | "margin" | "capacity" => component_text(&judged_component(c)),
+        "verdict" | "margin" => component_text(&judged_component(c)),
+        "capacity" => component_text(&searched(judged_component(c))),
         "sheet" => row_text(&given_sheet(c)),
         "part" | "read" => {
             let (row, count) = counted_sheet(c);
@@ -62,13 +64,17 @@ pub fn call(c: &mut Chance, kind: &str) -> Option<String> {
             room(c, &component_text(&component), length)
         }
         "write_end" => {
-            let count = c.pick(&[0, 1, 2, 255, 256, 257, 65_535]);
+            let count = c.pick(&[0, 1, 2, 255, 256, 257, 65_535, 65_536, 1 << 32, u64::MAX]);
             room(c, &count.to_string(), 6)
         }
         "host" => {
             let (row, count) = counted_sheet(c);
             let chosen = place(c, count);
             room(c, &format!("{} {chosen}", row_text(&row)), 24)
+        }
+        "host_check" => {
+            let row = given_sheet(c);
+            room(c, &row_text(&row), 12)
         }
         _ => return None,
     };
@@ -215,16 +221,24 @@ fn given_component(c: &mut Chance) -> Component {
     component_of(c, interface, table)
 }
 
-/// A component whose common period divides a chosen number, so that most are judged; asked ones have small deadlines where
-/// that number is large, since the plain search tries every capacity.
+/// The component with a deadline small enough for the plain search over every capacity and every instant.
+fn searched(component: Component) -> Component {
+    let Ok(common) = component.common_period() else { return component };
+    let deadline = (component.deadline as u64).min((4_000_000 / common).max(1)) as u32;
+    let capacity = match component.capacity {
+        Capacity::Stated(units) => Capacity::Stated(units.min(deadline)),
+        Capacity::Asked => Capacity::Asked,
+    };
+    Component { deadline, capacity, ..component }
+}
+
+/// A component to be judged: mostly one whose common period divides a chosen number.
 fn judged_component(c: &mut Chance) -> Component {
-    if c.one_in(10) {
-        let mut made = given_component(c);
-        if made.common_period().is_ok_and(|common| common > 5_000) {
-            made.capacity = Capacity::Stated(made.deadline / 2);
-        }
-        return made;
-    }
+    let made = if c.one_in(10) { given_component(c) } else { dividing_component(c) };
+    if made.capacity == Capacity::Asked { searched(made) } else { made }
+}
+
+fn dividing_component(c: &mut Chance) -> Component {
     let common: u32 = match c.below(100) {
         0 => c.pick(&[1_048_576, 720_720, 1_000_000, 1_048_574]),
         1..=4 => c.pick(&[5_040, 27_720, 65_536, 30_030]),
@@ -383,11 +397,10 @@ fn walk(c: &mut Chance) -> String {
             task_within(c, period)
         }).collect())
     };
-    let slots = trace_length(c);
+    let crowded = c.one_in(150);
+    let slots = if crowded { 6_000 } else { trace_length(c) };
     let mut jobs = arrivals(c, &table, slots);
-    if !c.one_in(40) {
-        jobs.truncate(1_024);
-    }
+    jobs.truncate(if crowded { c.pick(&[1_023, 1_024, 1_025]) } else { 1_024 });
     if c.one_in(5) {
         damage_jobs(c, &mut jobs);
     }
@@ -528,7 +541,8 @@ fn counted_sheet(c: &mut Chance) -> (Vec<u8>, u64) {
     (bytes, count)
 }
 
-fn given_sheet(c: &mut Chance) -> Vec<u8> {
+/// A sheet, sound or damaged.
+pub fn given_sheet(c: &mut Chance) -> Vec<u8> {
     counted_sheet(c).0
 }
 
@@ -538,12 +552,12 @@ mod tests {
     use crate::calls;
 
     #[test]
-    fn every_kind_makes_calls_that_are_answered() {
+    fn every_kind_makes_calls() {
         let mut c = Chance::new(7);
         for kind in KINDS {
             for _ in 0..50 {
                 let made = call(&mut c, kind).unwrap();
-                assert!(calls::answer(&made).is_ok(), "{made}");
+                assert!(calls::parse(&made).is_ok(), "{made}");
             }
         }
         assert!(call(&mut c, "no such kind").is_none());

@@ -41,13 +41,10 @@ pub fn least_margin(interface: &Interface, table: &Table, common: u64) -> Margin
     least
 }
 
-/// The capacity that a component is judged at: the stated one, or the smallest accepted one.
-pub fn capacity(component: &Component) -> Result<Option<u32>, Refusal> {
+/// The smallest capacity accepted for a component's period, deadline and tasks, whatever capacity it states: 6, 9, 10.
+pub fn smallest(component: &Component) -> Result<Option<u32>, Refusal> {
     let common = component.common_period()?;
-    Ok(match component.capacity {
-        Capacity::Stated(units) => Some(units),
-        Capacity::Asked => smallest_capacity(component, common),
-    })
+    Ok(smallest_capacity(component, common))
 }
 
 /// The verdict and the capacity that it speaks of, 0 for none.
@@ -68,7 +65,11 @@ pub fn verdict(component: &Component) -> Result<(Verdict, u32), Refusal> {
 /// The margin, measured at the stated capacity or the one found; none where there are no tasks or no capacity.
 pub fn margin(component: &Component) -> Result<Margin, Refusal> {
     let common = component.common_period()?;
-    Ok(match capacity(component)? {
+    let capacity = match component.capacity {
+        Capacity::Stated(units) => Some(units),
+        Capacity::Asked => smallest_capacity(component, common),
+    };
+    Ok(match capacity {
         Some(units) => least_margin(&component.interface(units), &component.table, common),
         None => None,
     })

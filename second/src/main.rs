@@ -20,6 +20,7 @@ use std::process::ExitCode;
 const USAGE: &str = "second answer              calls on standard input to answers
 second generate SEED COUNT KIND   calls of a kind (`second kinds` lists them)
 second kinds               the kinds of call
+second sheets SEED COUNT DIR      sheets, sound and damaged, into the files 1, 2, .. of a folder
 second list                the listing of the sheet on standard input
 second text                the sheet on standard input as text, one line a record
 second bytes               such a text on standard input as a sheet
@@ -31,12 +32,11 @@ fn input() -> Result<Vec<u8>, String> {
     Ok(bytes)
 }
 
-/// Writes a line for each call read from standard input.
-fn each_call(mut work: impl FnMut(&str, &str) -> Result<(), String>) -> Result<(), String> {
+/// Takes each call on standard input.
+fn each_call(mut work: impl FnMut(calls::Call) -> Result<(), String>) -> Result<(), String> {
     for (place, line) in std::io::stdin().lock().lines().enumerate() {
         let line = line.map_err(|error| error.to_string())?;
-        let answer = calls::answer(&line).map_err(|wrong| format!("line {}: {wrong}", place + 1))?;
-        work(&line, &answer)?;
+        work(calls::parse(&line).map_err(|wrong| format!("line {}: {wrong}", place + 1))?)?;
     }
     Ok(())
 }
@@ -45,7 +45,7 @@ fn command(words: &[&str]) -> Result<(), String> {
     let mut out = BufWriter::new(std::io::stdout().lock());
     let said = |result: std::io::Result<()>| result.map_err(|error| error.to_string());
     match words {
-        ["answer"] => each_call(|_, answer| said(writeln!(out, "{answer}")))?,
+        ["answer"] => each_call(|call| said(writeln!(out, "{}", calls::answer(call))))?,
         ["generate", seed, count, kind] => {
             let numbers = (seed.parse::<u64>(), count.parse::<u64>());
             let (Ok(seed), Ok(count)) = numbers else { return Err(USAGE.to_string()) };
@@ -53,6 +53,14 @@ fn command(words: &[&str]) -> Result<(), String> {
             for _ in 0..count {
                 let call = generate::call(&mut chance, kind).ok_or_else(|| format!("`{kind}` is no kind of call"))?;
                 said(writeln!(out, "{call}"))?;
+            }
+        }
+        ["sheets", seed, count, folder] => {
+            let numbers = (seed.parse::<u64>(), count.parse::<u64>());
+            let (Ok(seed), Ok(count)) = numbers else { return Err(USAGE.to_string()) };
+            let mut chance = chance::Chance::new(seed);
+            for place in 1..=count {
+                said(std::fs::write(format!("{folder}/{place}"), generate::given_sheet(&mut chance)))?;
             }
         }
         ["kinds"] => {
@@ -68,8 +76,8 @@ fn command(words: &[&str]) -> Result<(), String> {
         }
         ["coverage"] => {
             let mut seen = coverage::Seen::default();
-            each_call(|call, answer| {
-                seen.count(call, answer);
+            each_call(|call| {
+                seen.count(call);
                 Ok(())
             })?;
             let (report, missing) = seen.report();

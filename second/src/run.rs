@@ -72,6 +72,22 @@ pub fn run(table: &Table, jobs: &Jobs, trace: &[u8]) -> Walked {
     walked
 }
 
+/// Whether some unit of the run goes to one of several waiting jobs with the same earliest deadline, and whether several
+/// tasks are late at the first miss: what a set of calls has to reach. Long traces are not looked through.
+pub fn ties(table: &Table, jobs: &Jobs, trace: &[u8]) -> (bool, bool) {
+    let deadline = |job: usize| jobs.releases[job] as u64 + table.tasks[jobs.tasks[job] as usize].deadline as u64;
+    let walked = run(table, jobs, trace);
+    let stop = walked.miss.map_or(trace.len(), |(instant, _)| instant as usize);
+    let between = trace.len() <= 100 && (0..stop).any(|slot| {
+        let left = run(table, jobs, &trace[..slot]).left;
+        let waiting = || (0..left.len()).filter(|&job| jobs.releases[job] as usize <= slot && left[job] > 0);
+        let earliest = waiting().map(deadline).min();
+        trace[slot] == 1 && waiting().filter(|&job| Some(deadline(job)) == earliest).count() > 1
+    });
+    let late = walked.miss.is_some_and(|(instant, _)| (0..walked.left.len()).filter(|&job| deadline(job) == instant && walked.left[job] > 0).count() > 1);
+    (between, late)
+}
+
 /// The operation: 6, 9, 12, 13, and 11 for a work-left buffer whose length isn't the job count.
 pub fn answer(table: &Table, jobs: &Jobs, trace: &[u8], left: u64) -> Result<Walked, Refusal> {
     table.check()?;

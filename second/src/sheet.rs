@@ -221,6 +221,20 @@ pub fn host_call(sheet: &[u8], place: u64, buffer: &mut [u8], at: u64) -> Refusa
     }
 }
 
+/// The host's call that checks a sheet: the refusal, its place and the count of components, 4 bytes each; 11 without room.
+pub fn host_check(sheet: &[u8], buffer: &mut [u8], at: u64) -> Refusal {
+    let (refusal, place, count) = match read(sheet) {
+        Ok(all) => (0, 0, all.len()),
+        Err((refusal, place)) => (refusal, place, 0),
+    };
+    let mut bytes = vec![];
+    times(&mut bytes, &[refusal as u32, place as u32, count as u32]);
+    match put(&bytes, buffer, at) {
+        Ok(_) => 0,
+        Err(refusal) => refusal,
+    }
+}
+
 #[cfg(test)]
 mod tests {
     use super::*;

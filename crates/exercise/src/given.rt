@@ -1,4 +1,5 @@
-// What a call gives: tasks, tables, interfaces and components, each read from a place of the line on.
+// What a call gives: tasks, tables, interfaces and components, each read from a place of the line on. What stands behind
+// a table or a component is found by passing over its words.
 use crate::parse;
 use budget::component::Capacity;
 use budget::component::Component;
@@ -8,136 +9,112 @@ use budget::quantity::Units;
 use budget::task::Table;
 use budget::task::Task;
 
-// A task, and the place after it.
-pub struct ReadTask {
-    pub task: Task,
-    pub at: usize,
-}
-
-// A table, and the place after it.
-pub struct ReadTable {
-    pub table: Table,
-    pub at: usize,
-}
-
-// An interface, and the place after it.
-pub struct ReadInterface {
-    pub interface: Interface,
-    pub at: usize,
-}
-
-// A capacity, stated or asked, and the place after it.
-pub struct ReadCapacity {
-    pub capacity: Capacity,
-    pub at: usize,
-}
-
-// A component, and the place after it.
-pub struct ReadComponent {
-    pub component: Component,
-    pub at: usize,
-}
-
-pub fn read_task(line: &[u8], start: usize) -> ReadTask {
+pub fn read_task(line: &[u8], start: usize) -> Task {
     let period = parse::read_long(line, start);
     let work = parse::read_long(line, period.at);
     let deadline = parse::read_long(line, work.at);
-    let task = Task {
+    Task {
         period: Time(period.value),
         work: Units(work.value),
         deadline: Time(deadline.value),
-    };
-    ReadTask {
-        task: task,
-        at: deadline.at,
     }
 }
 
-pub fn read_interface(line: &[u8], start: usize) -> ReadInterface {
+pub fn read_interface(line: &[u8], start: usize) -> Interface {
     let period = parse::read_long(line, start);
     let capacity = parse::read_long(line, period.at);
     let deadline = parse::read_long(line, capacity.at);
-    let interface = Interface {
+    Interface {
         period: Time(period.value),
         capacity: Units(capacity.value),
         deadline: Time(deadline.value),
-    };
-    ReadInterface {
-        interface: interface,
-        at: deadline.at,
     }
 }
 
+// How many tasks are given with a count: a count above 64 comes with 64 of them.
+fn tasks_given(count: u64) -> usize {
+    if count > 64 {
+        return 64;
+    }
+    count as usize
+}
+
+// The task at a place of a table whose tasks begin at a place of the line.
+fn task_of(line: &[u8], first: usize, place: usize) -> Task {
+    read_task(line, parse::after_words(line, first, 3 * (place % 64)))
+}
+
 // A table; its places from the count on hold what is no task.
-pub fn read_table(line: &[u8], start: usize) -> ReadTable {
+pub fn read_table(line: &[u8], start: usize) -> Table {
     let count = parse::read_number(line, start);
-    let mut at = count.at;
+    let given = tasks_given(count.value);
     let mut tasks = [Task {
         period: Time(9),
         work: Units(0),
         deadline: Time(4294967295),
     }; 64];
-    let given = count.value;
     let mut i: usize = 0;
     while i < 64 {
-        if i as u64 >= given {
-            return ReadTable {
-                table: Table {
-                    count: given as usize,
-                    tasks: tasks,
-                },
-                at: at,
-            };
+        if i < given {
+            tasks[i] = task_of(line, count.at, i);
         }
-        let read = read_task(line, at);
-        let task = read.task;
-        tasks[i] = task;
-        at = read.at;
         i += 1;
     }
-    ReadTable {
-        table: Table {
-            count: given as usize,
-            tasks: tasks,
-        },
-        at: at,
+    Table {
+        count: count.value as usize,
+        tasks: tasks,
     }
 }
 
-fn read_capacity(line: &[u8], start: usize) -> ReadCapacity {
-    let after = parse::after_word(line, start);
-    if start < line.len() {
-        if line[start] == b's' {
-            let units = parse::read_long(line, after);
-            return ReadCapacity {
-                capacity: Capacity::Stated(Units(units.value)),
-                at: units.at,
-            };
-        }
-    }
-    ReadCapacity {
-        capacity: Capacity::Asked,
-        at: after,
-    }
+// The place after a table.
+pub fn after_table(line: &[u8], start: usize) -> usize {
+    let count = parse::read_number(line, start);
+    parse::after_words(line, count.at, 3 * (tasks_given(count.value) % 65))
 }
 
-pub fn read_component(line: &[u8], start: usize) -> ReadComponent {
+// Whether a component's capacity is stated, the word after its number.
+fn is_stated(line: &[u8], start: usize) -> bool {
+    let at = parse::after_word(line, start);
+    if at < line.len() {
+        return line[at] == b's';
+    }
+    false
+}
+
+fn read_capacity(line: &[u8], start: usize) -> Capacity {
+    if is_stated(line, start) {
+        let units = parse::read_long(line, parse::after_words(line, start, 2));
+        return Capacity::Stated(Units(units.value));
+    }
+    Capacity::Asked
+}
+
+// The place of Π in a component.
+fn period_place(line: &[u8], start: usize) -> usize {
+    if is_stated(line, start) {
+        return parse::after_words(line, start, 3);
+    }
+    parse::after_words(line, start, 2)
+}
+
+fn number_of(line: &[u8], start: usize) -> u16 {
     let number = parse::read_number(line, start);
-    let capacity = read_capacity(line, number.at);
-    let period = parse::read_long(line, capacity.at);
+    (number.value % 65536) as u16
+}
+
+pub fn read_component(line: &[u8], start: usize) -> Component {
+    let period = parse::read_long(line, period_place(line, start));
     let deadline = parse::read_long(line, period.at);
-    let table = read_table(line, deadline.at);
-    let stated = capacity.capacity;
-    let tasks = table.table;
-    let component = Component {
-        number: (number.value % 65536) as u16,
+    Component {
+        number: number_of(line, start),
         period: Time(period.value),
-        capacity: stated,
+        capacity: read_capacity(line, start),
         deadline: Time(deadline.value),
-        table: tasks,
-    };
-    ReadComponent {
-        component: component,
-        at: table.at,
+        table: read_table(line, deadline.at),
     }
+}
+
+// The place after a component.
+pub fn after_component(line: &[u8], start: usize) -> usize {
+    after_table(line, parse::after_words(line, period_place(line, start), 2))
 }

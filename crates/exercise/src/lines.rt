@@ -1,6 +1,10 @@
 // The lines of standard input, one after the other.
+use crate::edits;
+use crate::judged;
 use crate::numbers;
 use crate::print;
+use crate::sheets;
+use crate::traces;
 
 // The answer to a line, tried group by group.
 fn answer_text(line: &[u8], out: &mut [u8]) -> usize {
@@ -9,6 +13,22 @@ fn answer_text(line: &[u8], out: &mut [u8]) -> usize {
         return at;
     }
     let at = numbers::amounts(line, out);
+    if at > 0 {
+        return at;
+    }
+    let at = edits::edits(line, out);
+    if at > 0 {
+        return at;
+    }
+    let at = judged::judged(line, out);
+    if at > 0 {
+        return at;
+    }
+    let at = traces::traces(line, out);
+    if at > 0 {
+        return at;
+    }
+    let at = sheets::sheets(line, out);
     if at > 0 {
         return at;
     }

@@ -79,6 +79,17 @@ pub fn after_word(line: &[u8], start: usize) -> usize {
     at
 }
 
+// The place after so many words.
+pub fn after_words(line: &[u8], start: usize, count: usize) -> usize {
+    let mut at = start;
+    let mut i = 0;
+    while i < count {
+        at = after_word(line, at);
+        i += 1;
+    }
+    at
+}
+
 // Whether the line's first word is this one.
 pub fn is_word(line: &[u8], word: &[u8]) -> bool {
     let mut at = 0;
@@ -95,4 +106,81 @@ pub fn is_word(line: &[u8], word: &[u8]) -> bool {
         return line[at] == b' ';
     }
     true
+}
+
+// What was read into a lent row: how much of it, and the place after it.
+pub struct Row {
+    pub length: usize,
+    pub at: usize,
+}
+
+// The value of a hex digit, in the last four bits.
+fn hex_digit(byte: u8) -> u8 {
+    if byte >= b'a' {
+        return (byte - b'a' + 10) % 16;
+    }
+    byte % 16
+}
+
+// The byte of two hex digits.
+fn hex_byte(high: u8, low: u8) -> u8 {
+    hex_digit(high) % 16 * 16 + hex_digit(low) % 16
+}
+
+// Reads the row of bytes that begins at a place; `-` has none, and what does not fit is left out.
+pub fn read_row(line: &[u8], start: usize, row: &mut [u8]) -> Row {
+    let mut at = start;
+    let mut filled: usize = 0;
+    while filled < row.len() {
+        if at >= line.len() {
+            return Row {
+                length: filled,
+                at: at,
+            };
+        }
+        let high = line[at];
+        if high < b'0' {
+            return Row {
+                length: filled,
+                at: after_word(line, at),
+            };
+        }
+        if at + 1 >= line.len() {
+            return Row {
+                length: filled,
+                at: at,
+            };
+        }
+        row[filled] = hex_byte(high, line[at + 1]);
+        filled += 1;
+        at += 2;
+    }
+    Row {
+        length: filled,
+        at: after_word(line, at),
+    }
+}
+
+// Reads the numbers that stand after their count; what does not fit is left out.
+pub fn read_list(line: &[u8], start: usize, list: &mut [u32]) -> Row {
+    let count = read_number(line, start);
+    let given = count.value as usize;
+    let mut at = count.at;
+    let mut filled: usize = 0;
+    while filled < list.len() {
+        if filled >= given {
+            return Row {
+                length: filled,
+                at: at,
+            };
+        }
+        let read = read_long(line, at);
+        list[filled] = read.value;
+        at = read.at;
+        filled += 1;
+    }
+    Row {
+        length: filled,
+        at: at,
+    }
 }

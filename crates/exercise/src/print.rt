@@ -41,3 +41,38 @@ pub fn put_refusal(out: &mut [u8], refusal: u16) -> usize {
     let at = put_text(out, 0, b"refused");
     put_number(out, at, refusal as u64)
 }
+
+// The hex digit of a value below 16.
+fn hex_digit(value: u8) -> u8 {
+    if value % 16 < 10 {
+        return value % 16 + b'0';
+    }
+    value % 16 - 10 + b'a'
+}
+
+// Puts a space and a row of bytes in hex, or `-` for none.
+pub fn put_row(out: &mut [u8], start: usize, row: &[u8]) -> usize {
+    let mut at = put_byte(out, start, b' ');
+    if row.len() == 0 {
+        return put_byte(out, at, b'-');
+    }
+    let mut i = 0;
+    while i < row.len() {
+        let byte = row[i];
+        at = put_byte(out, at, hex_digit(byte / 16));
+        at = put_byte(out, at, hex_digit(byte));
+        i += 1;
+    }
+    at
+}
+
+// Puts the count of a list and its numbers.
+pub fn put_list(out: &mut [u8], start: usize, list: &[u32]) -> usize {
+    let mut at = put_number(out, start, list.len() as u64);
+    let mut i = 0;
+    while i < list.len() {
+        at = put_long(out, at, list[i]);
+        i += 1;
+    }
+    at
+}

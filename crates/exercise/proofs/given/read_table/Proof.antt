@@ -5,22 +5,22 @@ use Rattle.exercise.proofs.given.read_table.Statement.{statement}
 use Rattle.exercise.proofs.given.read_table.Tie as tie
 
 abbrev Inv-loop : tie.InvT-loop
-Inv-loop line start at₀ tasks₀ given i₀ at tasks i = Unit {0}
+Inv-loop line start count given tasks₀ i₀ tasks i = Unit {0}
 
 abbrev μ-loop : tie.MeasureT-loop
-μ-loop line start at₀ tasks₀ given i₀ at tasks i = 64 - i
+μ-loop line start count given tasks₀ i₀ tasks i = 64 - i
 
 read-number-requires : tie.Need-read-number-requires Inv-loop μ-loop
 read-number-requires c κs = search needs
 
+tasks-given-requires : tie.Need-tasks-given-requires Inv-loop μ-loop
+tasks-given-requires c κs = search needs
+
 loop-holds : tie.Need-loop-holds Inv-loop μ-loop
 loop-holds c = search needs
 
-returns : tie.Need-returns Inv-loop μ-loop
-returns c = search needs
-
-read-task-requires : tie.Need-read-task-requires Inv-loop μ-loop
-read-task-requires c κs = search needs
+task-of-requires : tie.Need-task-of-requires Inv-loop μ-loop
+task-of-requires c κs = search needs
 
 mul-tasks : tie.Need-mul-tasks Inv-loop μ-loop
 mul-tasks c = search needs
@@ -37,8 +37,8 @@ loop-less c = search needs
 loop-again : tie.Need-loop-again Inv-loop μ-loop
 loop-again c = search needs
 
-returns-2 : tie.Need-returns-2 Inv-loop μ-loop
-returns-2 c = search needs
+returns : tie.Need-returns Inv-loop μ-loop
+returns c = search needs
 
 pub read-table-spec : {M : Type 1} → statement M
 read-table-spec =
@@ -47,12 +47,12 @@ read-table-spec =
     Inv-loop
     μ-loop
     read-number-requires
+    tasks-given-requires
     loop-holds
-    returns
-    read-task-requires
+    task-of-requires
     mul-tasks
     array-set-from-tasks
     add-i
     loop-less
     loop-again
-    returns-2)
+    returns)
