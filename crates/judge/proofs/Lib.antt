@@ -1,6 +1,7 @@
 pub mod CapacityLaws
 pub mod Instants
 pub mod MarginLaws
+pub mod MarginRight
 pub mod SearchLaws
 pub mod SignedLaws
 pub mod StepLaws

@@ -87,6 +87,12 @@ marginInstantOf (Variant.Refused n) = 0
 marginInstantOf (Variant.Least m t) = t .0
 marginInstantOf Variant.None = 0
 
+-- what each answer says: the margin is that of the tightest step instant, and there is none exactly where there is no step instant
+abbrev pub MarginSays : List Task → Interface → ℕ → Margined → Type 0
+MarginSays ks i n (Variant.Refused r) = ⊥
+MarginSays ks i n (Variant.Least m t) = Tightest ks i n (t .0) × (m ≡ marginAt ks i (t .0))
+MarginSays ks i n Variant.None = (p : ℕ) → suc p ≤ n → ¬ Step ks p
+
 -- what an instant is tried with: numbers in their ranges
 pub record Triable (best : Tight) (i : Interface) (at asked : ℕ) : Type 0 where
   pub interface : validInterface i ≡ true
