@@ -7,6 +7,7 @@ use Rattle.budget.specs.CommonPeriod.{commonPeriod, commonMultiple, commonDivis
 use Rattle.budget.specs.Demand.{demand, jobsBy}
 use Rattle.budget.specs.Interface.{interface}
 use Rattle.budget.specs.Supply.{supply, wholePeriods}
+use Rattle.judge.specs.Margin.{marginOn, tightInstant, tightAt, tried}
 use Rattle.judge.specs.Search.{smallest}
 use Rattle.judge.specs.Verdict.{verdictOn, accepts, firstShort, isShort}
 use Rattle.run.specs.Job.{deadline, taskOf}
@@ -34,6 +35,6 @@ unfolding waits goesBefore headFirst next serve slot leftAt deadline taskOf
 miss = record { place = 0; inside = lit< tt; due = refl; late = lit< tt }
 
 pub figures-hold : Hold figures
-unfolding supply wholePeriods demand jobsBy commonPeriod commonMultiple commonDivisor euclid verdictOn accepts firstShort isShort smallest waits goesBefore headFirst next serve slot leftAt deadline taskOf
+unfolding supply wholePeriods demand jobsBy commonPeriod commonMultiple commonDivisor euclid verdictOn accepts firstShort isShort smallest marginOn tightInstant tightAt tried waits goesBefore headFirst next serve slot leftAt deadline taskOf
 figures-hold =
-    (refl, (refl, (refl, (refl, (refl, (refl, (refl, (refl, ((refl, refl), (refl, (refl, ((legal, not-at-start, not-at-three), ((miss, refl), tt)))))))))))))
+    (refl, (refl, (refl, (refl, (refl, (refl, (refl, (refl, ((refl, refl, refl), ((refl, refl), ((refl, refl), ((legal, not-at-start, not-at-three), ((miss, refl), tt)))))))))))))

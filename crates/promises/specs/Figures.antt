@@ -3,12 +3,15 @@
 use Prim.Native.Nat.{ℕ}
 use mathlib.Core.List.{List, [], _∷_, map}
 use mathlib.Core.Path.{_≡_}
+use lib.IntN.{pos, negsuc}
 use Rattle.budget.specs.declared.task.Task.{Task}
 use Rattle.budget.specs.CommonPeriod.{commonPeriod}
 use Rattle.budget.specs.Demand.{demand}
 use Rattle.budget.specs.Interface.{interface, dedicated}
 use Rattle.budget.specs.Supply.{supply}
+use Rattle.judge.specs.declared.answer.Margined.the-variants.{Least}
 use Rattle.judge.specs.declared.answer.Verdict.the-variants.{Accepted, Short}
+use Rattle.judge.specs.Margin.{marginOn, marginOf}
 use Rattle.judge.specs.Verdict.{verdictOn}
 use Rattle.run.specs.Job.{Job}
 use Rattle.run.specs.Run.{MissAt, leftAt}
@@ -35,7 +38,7 @@ trace = 0 ∷ 0 ∷ 0 ∷ 0 ∷ 0 ∷ 0 ∷ 1 ∷ 1 ∷ []
 abbrev pub jobs : List Job
 jobs = record { task = 0; release = 0; work = 2 } ∷ []
 
--- a row: the figure's number in 01 and what 01 says of it
+-- a row: the figure's number in 01 and what 01 says of it; `negsuc 0` is −1
 pub record Figure : Type 1 where
   pub number : ℕ
   pub says : Type 0
@@ -53,9 +56,9 @@ figures =
     ∷ p 6 (supply (interface 6 3 6) 14 ≡ 5)
     ∷ p 7 (map (demand (task 6 3 5 ∷ [])) (4 ∷ 5 ∷ 10 ∷ 11 ∷ []) ≡ 0 ∷ 3 ∷ 3 ∷ 6 ∷ [])
     ∷ p 8 (demand nine 14 ≡ 12)
-    ∷ p 9 ((commonPeriod 1 nine ≡ 28) × (verdictOn nine dedicated 28 ≡ Accepted))
-    ∷ p 10 (verdictOn ten dedicated (commonPeriod 1 ten) ≡ Short (record { 0 = 6 }))
-    ∷ p 11 (verdictOn eleven (interface 6 2 4) (commonPeriod 6 eleven) ≡ Short (record { 0 = 7 }))
+    ∷ p 9 ((commonPeriod 1 nine ≡ 28) × (verdictOn nine dedicated 28 ≡ Accepted) × (marginOn nine dedicated 28 ≡ Least (pos 1) (record { 0 = 8 })))
+    ∷ p 10 ((verdictOn ten dedicated (commonPeriod 1 ten) ≡ Short (record { 0 = 6 })) × (marginOf (marginOn ten dedicated (commonPeriod 1 ten)) ≡ negsuc 0))
+    ∷ p 11 ((verdictOn eleven (interface 6 2 4) (commonPeriod 6 eleven) ≡ Short (record { 0 = 7 })) × (marginOn eleven (interface 6 2 4) (commonPeriod 6 eleven) ≡ Least (negsuc 0) (record { 0 = 7 })))
     ∷ p 12 (Legal (interface 6 2 4) 2 trace × (¬ Legal (interface 6 2 4) 0 trace) × (¬ Legal (interface 6 2 4) 3 trace))
     ∷ p 12 (MissAt eleven jobs trace 7 × (leftAt eleven jobs trace 7 ≡ 1 ∷ []))
     ∷ []
