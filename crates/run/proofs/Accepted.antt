@@ -9,16 +9,16 @@ use lib.ListN.{length, getD, length-take}
 use lib.Dec.{leb, ltb, eqb}
 use borrow.Author.Tests.{ltb-true, ltb-false, leb-true, eqb-true, eqb-false, eq-eqb}
 use Rattle.budget.specs.declared.task.Table.{Table}
-use Rattle.budget.specs.declared.task.Task.{Task}
 use Rattle.budget.specs.Limits.{most-tasks}
 use Rattle.budget.specs.Refusal as refusal
 use Rattle.budget.specs.Task.{D, noTask, validTasks, tasksOf, tableRefusal}
 use Rattle.budget.proofs.Valid.{both, valid-at}
 use Rattle.trace.specs.Answer.{longest}
 use Rattle.trace.specs.Legal.{zerosAndOnes}
-use Rattle.run.specs.Job.{Job, taskOf, validJob, beforeAll, legalArrival}
+use Rattle.run.specs.Job.{taskOf, legalArrival}
 use Rattle.run.specs.Run.{noJob, leftAt}
 use Rattle.run.specs.Walk.{most-jobs, jobsOf, releasedBefore, validJobs, validTrace, walkRefusal, stop, walkedTo, walkAnswer, leftAfter}
+use Rattle.run.proofs.Arrival.{arrival-at}
 use Rattle.run.proofs.JobRules.{lists, task-at, tasks-length}
 use Rattle.run.proofs.Scans.{column, column-length}
 
@@ -86,16 +86,6 @@ released-at end [] e k h = absurd (not-suc-le-zero h)
 released-at end (r ∷ rs) e zero h = ltb-true _ _ (both _ _ e .0)
 released-at end (r ∷ rs) e (suc k) h = released-at end rs (both (ltb r end) _ e .1) k (le-of-suc-le-suc h)
 
-legal-at : (ks : List Task) (js : List Job) → legalArrival ks js ≡ true → (k : ℕ) → k < length js → validJob ks (getD js k noJob) ≡ true
-unfolding legalArrival
-legal-at ks [] e k h = absurd (not-suc-le-zero h)
-legal-at ks (j ∷ js) e zero h = both _ _ e .0
-legal-at ks (j ∷ js) e (suc k) h = legal-at ks js (both (beforeAll ks j js) _ (both (validJob ks j) _ e .1) .1) k (le-of-suc-le-suc h)
-
-task-there : (ks : List Task) (j : Job) → validJob ks j ≡ true → j .task < length ks
-unfolding validJob
-task-there ks j e = ltb-true _ _ (both _ _ e .0)
-
 -- a job's task has a number below 64
 pub task-few : (table : Table) (ts rs ws s : List ℕ) (room : ℕ) → Accepted table ts rs ws s room
     → (q : ℕ) → q < length (jobsOf ts rs ws) → getD (jobsOf ts rs ws) q noJob .task < most-tasks
@@ -103,7 +93,7 @@ unfolding tasksOf
 task-few table ts rs ws s room a q h =
     omega (
       arith,
-      task-there (tasksOf table) (getD (jobsOf ts rs ws) q noJob) (legal-at (tasksOf table) (jobsOf ts rs ws) (a .legal) q h),
+      arrival-at (tasksOf table) (jobsOf ts rs ws) (a .legal) q h .numbered,
       length-take (table .count) (table .tasks),
       a .tasks .few,
     )
@@ -116,7 +106,7 @@ job-fine table ts rs ws s room fits a k h =
     let js = jobsOf ts rs ws in
     let l = lists ts rs ws (a .releases-long) (a .works-long) in
     let hj : k < length js = omega (arith, column-length _ js _ (l .tasks)) in
-    let there : getD js k noJob .task < length (tasksOf table) = task-there _ _ (legal-at (tasksOf table) js (a .legal) k hj) in
+    let there : getD js k noJob .task < length (tasksOf table) = arrival-at (tasksOf table) js (a .legal) k hj .numbered in
     let at : getD js k noJob .task ≡ getD ts k 0 = column (λ j. j .task) js ts (l .tasks) k hj in
     let long = tasks-length table fits in
     let inside : getD ts k 0 < table .count = omega arith in
