@@ -1,86 +1,86 @@
 -- A walk is refused in the order defined: each return is the definition at the tests that were passed before it.
+use Prim.Native.Nat.{ℕ}
 use mathlib.Core.Path.{_≡_, sym, _∙_}
+use mathlib.Core.Bool.{Bool, true, false, cond}
+use lib.Dec.{eqb}
+use lib.ListN.{length}
+use denote.Ref.{now}
 use borrow.Author.Tests.{le-leb, lt-leb, eq-eqb, ne-eqb, not-true, not-false}
-use Rattle.budget.specs.Task.{tableRefusal}
-use Rattle.run.specs.Walk.{validTrace, walkRefusal}
+use Rattle.budget.specs.Refusal as refusal
+use Rattle.budget.specs.Task.{tasksOf, tableRefusal}
+use Rattle.run.specs.Walk.{validJobs, validTrace, walkRefusal}
 use Rattle.run.proofs.Accepted.{table-accepted}
 use borrow.Author.Needs.{needs}
 use Rattle.run.proofs.walk.check_walk.Statement.{statement}
 use Rattle.run.proofs.walk.check_walk.Tie as tie
 
--- what each test that was passed shows
-table-fine : (c : tie.Else1) → tableRefusal (c .before .before .before .before .before .before .args .table) ≡ 0
+abbrev start : tie.Else1 → tie.Start
+start c = c .before .before .before .before .before .before
+
+-- the refusal of what the function was given
+abbrev refused : tie.Start → ℕ
+refused s =
+    let a = s .args in
+    walkRefusal (a .table) (now (a .tasks)) (now (a .releases)) (now (a .works)) (now (a .trace)) (a .room)
+
+-- what is left of it past each test: past the table the jobs decide, past the jobs the trace, past the trace the room
+table-fine : (c : tie.Else1) → tableRefusal (start c .args .table) ≡ 0
 table-fine c = sym (c .before .check-table .ensures) ∙ c .if1 .left
+
+past-table : (c : tie.Else1) (b : Bool) → let a = start c .args in
+    b ≡ validJobs (tasksOf (a .table)) (now (a .tasks)) (now (a .releases)) (now (a .works)) (length (now (a .trace)))
+    → refused (start c) ≡ cond b (cond (validTrace (now (a .trace))) (cond (eqb (a .room) (length (now (a .tasks)))) 0 refusal.room) refusal.bad-trace) refusal.jobs
+unfolding walkRefusal
+past-table c b e = rw (eq-eqb _ 0 (table-fine c), ← e)
+
+past-jobs : (c : tie.Else2) (b : Bool) → let a = start (c .before .before) .args in
+    b ≡ validTrace (now (a .trace)) → refused (start (c .before .before)) ≡ cond b (cond (eqb (a .room) (length (now (a .tasks)))) 0 refusal.room) refusal.bad-trace
+past-jobs c b e =
+    past-table (c .before .before) (c .before .check-jobs .result) (c .before .check-jobs .ensures)
+    ∙ rw (not-false (c .before .check-jobs .result) (c .if2 .left), ← e)
+
+past-trace : (c : tie.Else4) → let a = start (c .before .before .before .before .before) .args in
+    refused (start (c .before .before .before .before .before)) ≡ cond (eqb (a .room) (length (now (a .tasks)))) 0 refusal.room
+unfolding validTrace
+past-trace c =
+    past-jobs (c .before .before .before) true
+    (rw (le-leb _ _ (c .before .before .if3 .left), ← (c .before .zeros-and-ones .ensures), not-false (c .before .zeros-and-ones .result) (c .if4 .left)))
 
 check-table-requires : tie.Need-check-table-requires
 check-table-requires c κs = search needs
 
 returns : tie.Need-returns
-unfolding walkRefusal validTrace
+unfolding walkRefusal
 returns c = rw (← (c .before .check-table .ensures), ne-eqb (c .before .check-table .result) 0 (c .if1 .taken))
 
 check-jobs-requires : tie.Need-check-jobs-requires
 check-jobs-requires c κs = table-accepted _ (table-fine c) .few
 
 returns-2 : tie.Need-returns-2
-unfolding walkRefusal validTrace
 returns-2 c =
-    rw (eq-eqb _ 0 (table-fine (c .before .before)), ← (c .before .check-jobs .ensures), not-true (c .before .check-jobs .result) (c .if2 .taken))
+    sym
+    (past-table (c .before .before) (c .before .check-jobs .result) (c .before .check-jobs .ensures)
+    ∙ rw (not-true (c .before .check-jobs .result) (c .if2 .taken)))
 
 returns-3 : tie.Need-returns-3
-unfolding walkRefusal validTrace
-returns-3 c =
-    let j = c .before in
-    rw (eq-eqb _ 0 (table-fine (j .before .before)), ← (j .before .check-jobs .ensures), not-false (j .before .check-jobs .result) (j .if2 .left), lt-leb _ _ (c .if3 .taken))
+unfolding validTrace
+returns-3 c = sym (past-jobs (c .before) false (rw (lt-leb _ _ (c .if3 .taken))))
 
 zeros-and-ones-requires : tie.Need-zeros-and-ones-requires
 zeros-and-ones-requires c κs = search needs
 
 returns-4 : tie.Need-returns-4
-unfolding walkRefusal validTrace
+unfolding validTrace
 returns-4 c =
-    let l = c .before .before in
-    let j = l .before in
-    rw (
-      eq-eqb _ 0 (table-fine (j .before .before)),
-      ← (j .before .check-jobs .ensures),
-      not-false (j .before .check-jobs .result) (j .if2 .left),
-      le-leb _ _ (l .if3 .left),
-      ← (c .before .zeros-and-ones .ensures),
-      not-true (c .before .zeros-and-ones .result) (c .if4 .taken),
-    )
+    sym
+    (past-jobs (c .before .before .before) false
+    (rw (le-leb _ _ (c .before .before .if3 .left), ← (c .before .zeros-and-ones .ensures), not-true (c .before .zeros-and-ones .result) (c .if4 .taken))))
 
 returns-5 : tie.Need-returns-5
-unfolding walkRefusal validTrace
-returns-5 c =
-    let z = c .before in
-    let l = z .before .before in
-    let j = l .before in
-    rw (
-      eq-eqb _ 0 (table-fine (j .before .before)),
-      ← (j .before .check-jobs .ensures),
-      not-false (j .before .check-jobs .result) (j .if2 .left),
-      le-leb _ _ (l .if3 .left),
-      ← (z .before .zeros-and-ones .ensures),
-      not-false (z .before .zeros-and-ones .result) (z .if4 .left),
-      ne-eqb _ _ (c .if5 .taken),
-    )
+returns-5 c = sym (past-trace (c .before) ∙ rw (ne-eqb _ _ (c .if5 .taken)))
 
 returns-6 : tie.Need-returns-6
-unfolding walkRefusal validTrace
-returns-6 c =
-    let z = c .before in
-    let l = z .before .before in
-    let j = l .before in
-    rw (
-      eq-eqb _ 0 (table-fine (j .before .before)),
-      ← (j .before .check-jobs .ensures),
-      not-false (j .before .check-jobs .result) (j .if2 .left),
-      le-leb _ _ (l .if3 .left),
-      ← (z .before .zeros-and-ones .ensures),
-      not-false (z .before .zeros-and-ones .result) (z .if4 .left),
-      eq-eqb _ _ (c .if5 .left),
-    )
+returns-6 c = sym (past-trace (c .before) ∙ rw (eq-eqb _ _ (c .if5 .left)))
 
 pub check-walk-spec : {M : Type 1} → statement M
 check-walk-spec =
