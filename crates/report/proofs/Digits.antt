@@ -60,3 +60,10 @@ decimal-length (suc k) n h =
           let r : length (decimal (n / 10)) ≤ suc k = decimal-length k (n / 10) (omega (arith, pow-suc 10 k)) in
           omega (arith, length-more n (omega arith))
     ]
+
+-- the most digits of a number of 64 bits and of one of 32
+pub digits-64 : (n : ℕ) → n < 2 ^ 64 → length (decimal n) ≤ 21
+digits-64 n h = decimal-length 20 n (omega arith)
+
+pub digits-32 : (n : ℕ) → n < 2 ^ 32 → length (decimal n) ≤ 11
+digits-32 n h = decimal-length 10 n (omega arith)

@@ -1,2 +1,4 @@
-pub mod Stores
 pub mod Digits
+pub mod LineLaws
+pub mod Puts
+pub mod SignedText

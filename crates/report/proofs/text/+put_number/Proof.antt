@@ -8,7 +8,7 @@ use lib.ListN.{set}
 use lib.Seq.{sets}
 use Rattle.report.specs.Text.{decimal}
 use Rattle.report.proofs.Digits.{decimal-one, decimal-more, length-one, length-more}
-use Rattle.report.proofs.Stores.{sets-last}
+use Rattle.report.proofs.Puts.{sets-last}
 use Prim.Native.Nat.{ℕ, _+_, _/_, _%_, _<_, _≤_}
 use borrow.Fn.Kinds.{In}
 use borrow.Fn.PlainCycle.{Measures, is, falls, and}
@@ -30,7 +30,7 @@ put-number-below t =
     and 1 put-number-kinds.ps (falls 1 put-number-kinds.ps _<_ μ-put-number t) put-number.Pre
 
 room : (t : ℕ) (c : put-number-lts.After-put-number (put-number-below t, put-number.Post) (put-number-at t) put-number.Post) → c .put-number .result < 64
-room t c = omega (arith, length-more (c .before .before .before .args .n) (omega arith), c .put-number .ensures .0)
+room t c = omega (arith, length-more (c .before .before .before .args .n) (omega arith), c .put-number .ensures .place)
 
 put-number-cast-line : (t : ℕ) → put-number-lts.Need-cast-line (
   put-number-below t,
@@ -65,11 +65,12 @@ put-number-returns :
     (put-number-at t)
     put-number.Post
 put-number-returns t c =
-    let a = c .before .args in (
-      omega (arith, length-one (a .n) (c .if1 .taken)),
-      ap (λ (d : ℕ). set (a .line .now) (a .at) (48 + d)) (mod-eq-of-lt (omega arith))
-          ∙ sym (ap (λ (ds : List ℕ). sets (a .line .now) (a .at) ds) (decimal-one (a .n) (c .if1 .taken))),
-    )
+    let a = c .before .args in record {
+      place = omega (arith, length-one (a .n) (c .if1 .taken));
+      line =
+          ap (λ (d : ℕ). set (a .line .now) (a .at) (48 + d)) (mod-eq-of-lt (omega arith))
+          ∙ sym (ap (λ (ds : List ℕ). sets (a .line .now) (a .at) ds) (decimal-one (a .n) (c .if1 .taken)));
+    }
 
 put-number-put-number-requires : (t : ℕ) → put-number-lts.Need-put-number-requires (
   put-number-below t,
@@ -107,15 +108,15 @@ put-number-returns-2 : (t : ℕ) → put-number-lts.Need-returns-2 (
 ) (put-number-at t) put-number.Post
 put-number-returns-2 t c =
     let a = c .before .before .before .args in
-    let h : 10 ≤ a .n = omega arith in (
-      omega (arith, length-more (a .n) h, c .put-number .ensures .0),
-      cc (
-        c .put-number .ensures .0,
-        c .put-number .ensures .1,
+    let h : 10 ≤ a .n = omega arith in record {
+      place = omega (arith, length-more (a .n) h, c .put-number .ensures .place);
+      line = cc (
+        c .put-number .ensures .place,
+        c .put-number .ensures .line,
         sets-last (a .line .now) (a .at) (decimal (a .n / 10)) (48 + a .n % 10),
         ap (λ (ds : List ℕ). sets (a .line .now) (a .at) ds) (decimal-more (a .n) h),
-      ),
-    )
+      );
+    }
 
 pub +put-number-spec : {M : Type 1} → statement M
 +put-number-spec = close μ-put-number λ t. put-number-lts.spec (

@@ -7,7 +7,7 @@ use mathlib.Core.Path.{_≡_, refl, sym, ap, _∙_}
 use mathlib.Core.List.{List}
 use lib.ListN.{length, getD, set, take}
 use lib.Seq.{sets, take-suc, length-take-le, take-all}
-use Rattle.report.proofs.Stores.{sets-last}
+use Rattle.report.proofs.Puts.{sets-last}
 use Rattle.report.proofs.text.put_word.Statement.{statement}
 use Rattle.report.proofs.text.put_word.Tie as tie
 use Rattle.report.proofs.text.put_word.Reads as reads
@@ -56,7 +56,7 @@ returns : tie.Need-returns Inv-loop μ-loop
 returns c =
     let a = c .before .before .args in
     let l = c .before .loop in
-    (omega arith, l .inv .1 ∙ ap (λ (xs : List ℕ). sets (a .line .now) (a .at) xs) (take-all (l .i) (a .word .now) (omega arith)))
+    record { place = omega arith; line = l .inv .1 ∙ ap (λ (xs : List ℕ). sets (a .line .now) (a .at) xs) (take-all (l .i) (a .word .now) (omega arith)) }
 
 pub put-word-spec : {M : Type 1} → statement M
 put-word-spec =

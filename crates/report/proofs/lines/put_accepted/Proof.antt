@@ -1,0 +1,42 @@
+-- `report::lines::put_accepted` meets its contract.
+use borrow.Author.Needs.{needs}
+use native.Mathlib.Omega.{arith}
+use Rattle.report.specs.Lines.{behind}
+use Rattle.report.proofs.Digits.{digits-32}
+use Rattle.report.proofs.Puts.{put-then}
+use Rattle.report.proofs.lines.put_accepted.Statement.{statement}
+use Rattle.report.proofs.lines.put_accepted.Tie as tie
+
+slice-aggregate-put-word : tie.Need-slice-aggregate-put-word
+slice-aggregate-put-word c = search needs
+
+put-word-requires : tie.Need-put-word-requires
+put-word-requires c κs = search needs
+
+put-field-requires : tie.Need-put-field-requires
+put-field-requires c κs =
+    omega (arith, digits-32 (c .before .before .before .before .args .capacity) (omega arith), c .before .put-word .ensures .place)
+
+put-margin-requires : tie.Need-put-margin-requires
+put-margin-requires c κs =
+    omega (
+      arith,
+      digits-32 (c .before .before .before .before .before .before .args .capacity) (omega arith),
+      c .before .before .before .put-word .ensures .place,
+      c .before .put-field .ensures .place,
+    )
+
+returns : tie.Need-returns
+unfolding behind
+returns c =
+    put-then (c .before .before .before .before .put-word .ensures) (put-then (c .before .before .put-field .ensures) (c .put-margin .ensures))
+
+pub put-accepted-spec : {M : Type 1} → statement M
+put-accepted-spec =
+    tie.close
+    (tie.spec
+    slice-aggregate-put-word
+    put-word-requires
+    put-field-requires
+    put-margin-requires
+    returns)

@@ -1,0 +1,153 @@
+// The lines of a listing. Each is put at the front of a line's bytes, with its newline; each function answers the place after what it put.
+use crate::text::Line;
+use crate::text::put_field;
+use crate::text::put_number;
+use crate::text::put_signed;
+use crate::text::put_word;
+use budget::component::Component;
+use budget::quantity::Units;
+use budget::refusal;
+use judge::answer::Judged;
+use judge::answer::Margined;
+use judge::answer::Verdict;
+use judge::margin::margin;
+use judge::verdict::verdict;
+use sheet::check::check_sheet;
+use sheet::read::read_component;
+ghost use mathlib.Core.Path.{_≡_};
+ghost use Prim.Native.Nat.{_+_, _≤_};
+ghost use lib.ListN.{length};
+ghost use lib.Seq.{sets};
+ghost use mathlib.Core.List.{[], _∷_, _++_};
+ghost use Rattle.report.specs.Text.{Put, decimal, signedText};
+ghost use Rattle.report.specs.Lines.{behind, refusedLine, endLine, componentLine, lineAt, marginFields, verdictFields, answerFields, accepted-word, short-word};
+
+// The one line of a refused sheet.
+fn put_refused(line: &mut Line, number: u16, place: usize) -> usize
+    ensures { λ r. ⌜ Put (now (line .entry)) 0 (refusedLine number place) (now (line .exit)) r ⌝ }
+{
+    let word = put_word(line, 0, b"refused");
+    let first = put_field(line, word, number as usize);
+    let second = put_field(line, first, place);
+    put_word(line, second, b"\n")
+}
+
+// The last line of a sheet that is not refused.
+fn put_end(line: &mut Line, count: usize) -> usize
+    ensures { λ r. ⌜ Put (now (line .entry)) 0 (endLine count) (now (line .exit)) r ⌝ }
+{
+    let word = put_word(line, 0, b"end");
+    let first = put_field(line, word, count);
+    put_word(line, first, b"\n")
+}
+
+// A margin and its instant, and the newline: at most 26 bytes.
+fn put_least(line: &mut Line, at: usize, margin: i32, instant: u32) -> usize
+    requires { ⌜ at ≤ 38 ⌝ }
+    ensures { λ r. ⌜ Put (now (line .entry)) at (behind (signedText margin ∷ decimal instant ∷ [])) (now (line .exit)) r ⌝ }
+{
+    let first = put_signed(line, at, margin);
+    let second = put_field(line, first, instant as usize);
+    put_word(line, second, b"\n")
+}
+
+// The last fields of an accepted or short component, and the newline.
+fn put_margin(line: &mut Line, at: usize, margined: Margined) -> usize
+    requires { ⌜ at ≤ 38 ⌝ }
+    ensures { λ r. ⌜ Put (now (line .entry)) at (behind (marginFields margined)) (now (line .exit)) r ⌝ }
+{
+    match margined {
+        Margined::Least(margin, instant) => put_least(line, at, margin, instant.0),
+        Margined::Refused(_) => put_word(line, at, b" - -\n"),
+        Margined::None => put_word(line, at, b" - -\n"),
+    }
+}
+
+fn put_accepted(line: &mut Line, at: usize, capacity: u32, margined: Margined) -> usize
+    requires { ⌜ at ≤ 11 ⌝ }
+    ensures { λ r. ⌜ Put (now (line .entry)) at (behind (accepted-word ∷ decimal capacity ∷ marginFields margined)) (now (line .exit)) r ⌝ }
+{
+    let word = put_word(line, at, b" accepted");
+    let first = put_field(line, word, capacity as usize);
+    put_margin(line, first, margined)
+}
+
+fn put_short(line: &mut Line, at: usize, capacity: u32, instant: u32, margined: Margined) -> usize
+    requires { ⌜ at ≤ 6 ⌝ }
+    ensures { λ r. ⌜ Put (now (line .entry)) at (behind (short-word ∷ decimal capacity ∷ decimal instant ∷ marginFields margined)) (now (line .exit)) r ⌝ }
+{
+    let word = put_word(line, at, b" short");
+    let first = put_field(line, word, capacity as usize);
+    let second = put_field(line, first, instant as usize);
+    put_margin(line, second, margined)
+}
+
+fn put_verdict(
+    line: &mut Line,
+    at: usize,
+    capacity: Units,
+    verdict: Verdict,
+    margined: Margined,
+) -> usize
+    requires { ⌜ at ≤ 6 ⌝ }
+    ensures { λ r. ⌜ Put (now (line .entry)) at (behind (verdictFields capacity verdict margined)) (now (line .exit)) r ⌝ }
+{
+    match verdict {
+        Verdict::Accepted => put_accepted(line, at, capacity.0, margined),
+        Verdict::Short(instant) => put_short(line, at, capacity.0, instant.0, margined),
+        Verdict::None => put_word(line, at, b" none\n"),
+    }
+}
+
+// What stands behind a component's number, and the newline.
+fn put_answer(line: &mut Line, at: usize, judged: Judged, margined: Margined) -> usize
+    requires { ⌜ at ≤ 6 ⌝ }
+    ensures { λ r. ⌜ Put (now (line .entry)) at (behind (answerFields judged margined)) (now (line .exit)) r ⌝ }
+{
+    match judged {
+        Judged::Refused(_) => put_word(line, at, b" long\n"),
+        Judged::Answered(capacity, verdict) => put_verdict(line, at, capacity, verdict, margined),
+    }
+}
+
+// A component's line: its number, then its answer.
+fn put_numbered(line: &mut Line, number: u16, judged: Judged, margined: Margined) -> usize
+    ensures { λ r. ⌜ Put (now (line .entry)) 0 (decimal number ++ behind (answerFields judged margined)) (now (line .exit)) r ⌝ }
+{
+    let at = put_number(line, 0, number as usize);
+    put_answer(line, at, judged, margined)
+}
+
+// The line of one component.
+fn put_component(line: &mut Line, component: Component) -> usize
+    ensures { λ r. ⌜ Put (now (line .entry)) 0 (componentLine component) (now (line .exit)) r ⌝ }
+{
+    let judged = verdict(component);
+    let margined = margin(component);
+    put_numbered(line, component.number, judged, margined)
+}
+
+// Puts the line of a sheet's listing that stands at an index, from 0, and answers its length with the newline; past the last line nothing is put.
+pub fn listing_line(sheet: &[u8], index: usize, line: &mut Line) -> usize
+    ensures { λ r. ⌜ r ≡ length (lineAt (now (sheet .entry)) index) ⌝ }
+    ensures { λ r. ⌜ now (line .exit) ≡ sets (now (line .entry)) 0 (lineAt (now (sheet .entry)) index) ⌝ }
+{
+    let checked = check_sheet(sheet);
+    let number = checked.refusal;
+    let count = checked.count;
+    if number != refusal::NONE {
+        if index == 0 {
+            return put_refused(line, number, checked.place);
+        }
+        return 0;
+    }
+    if index < count {
+        let reading = read_component(sheet, index);
+        let component = reading.component;
+        return put_component(line, component);
+    }
+    if index == count {
+        return put_end(line, count);
+    }
+    0
+}
