@@ -1,0 +1,57 @@
+-- The verdict's refusal is the component's own; else the writer is handed the reply on the judge's answers.
+use mathlib.Core.Path.{refl, sym, ap, ap₂, _∙_}
+use borrow.Author.Tests.{ne-eqb}
+use Rattle.jougsilver.specs.Answer.{refusalOf, replyOf, replyOn, answerRefusal}
+use Rattle.jougsilver.proofs.AnswerLaws.{refused-as}
+use Rattle.sheet.specs.declared.write.Written.{Written}
+use Rattle.sheet.specs.Writing.{written, buffered}
+use borrow.Author.Needs.{needs}
+use Rattle.jougsilver.proofs.answer.answer.Statement.{statement}
+use Rattle.jougsilver.proofs.answer.answer.Tie as tie
+
+verdict-requires : tie.Need-verdict-requires
+verdict-requires c κs = search needs
+
+refusal-of-requires : tie.Need-refusal-of-requires
+refusal-of-requires c κs = search needs
+
+returns : tie.Need-returns
+unfolding answerRefusal buffered
+returns c =
+    let e = c .before .refusal-of .ensures ∙ (ap refusalOf (c .before .before .verdict .ensures) ∙ refused-as (c .before .before .before .before .args .component)) in
+    rw (← e, ne-eqb _ _ (c .if1 .taken), ne-eqb _ _ (c .if1 .taken)) (refl, refl)
+
+margin-requires : tie.Need-margin-requires
+margin-requires c κs = search needs
+
+reply-of-requires : tie.Need-reply-of-requires
+reply-of-requires c κs = search needs
+
+write-reply-requires : tie.Need-write-reply-requires
+write-reply-requires c κs = search needs
+
+same-length : tie.Need-same-length
+same-length c = search needs
+
+returns-2 : tie.Need-returns-2
+unfolding answerRefusal replyOn written
+returns-2 c =
+    let a = c .before .before .before .before .before .before .before .before .before .before .args in
+    let e = c .before .before .before .before .before .before .before .refusal-of .ensures ∙ (ap refusalOf (c .before .before .before .before .before .before .before .before .verdict .ensures) ∙ refused-as (a .component)) in
+    let z = sym e ∙ c .before .before .before .before .before .before .if1 .left in
+    let w = c .before .before .write-reply .ensures in
+    let f = c .before .before .before .before .reply-of .ensures ∙ ap₂ (replyOf (a .component .number)) (c .before .before .before .before .before .before .before .before .verdict .ensures) (c .before .before .before .before .before .margin .ensures) in
+    rw z (ap (λ (x : Written). x .refusal) (w .0), rw (← f) (w .1))
+
+pub answer-spec : {M : Type 1} → statement M
+answer-spec =
+    tie.close
+    (tie.spec
+    verdict-requires
+    refusal-of-requires
+    returns
+    margin-requires
+    reply-of-requires
+    write-reply-requires
+    same-length
+    returns-2)

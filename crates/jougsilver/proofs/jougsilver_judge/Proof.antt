@@ -1,0 +1,49 @@
+-- A refused reading is answered as it is; else the component that was read is answered.
+use mathlib.Core.Path.{refl, sym, ap, _∙_}
+use borrow.Author.Tests.{ne-eqb}
+use Rattle.jougsilver.specs.Host.{hostRefusal}
+use Rattle.sheet.specs.declared.read.Reading.{Reading}
+use Rattle.sheet.specs.Writing.{buffered}
+use borrow.Author.Needs.{needs}
+use Rattle.jougsilver.proofs.jougsilver_judge.Statement.{statement}
+use Rattle.jougsilver.proofs.jougsilver_judge.Tie as tie
+
+read-component-requires : tie.Need-read-component-requires
+read-component-requires c κs = search needs
+
+cast-result : tie.Need-cast-result
+cast-result c = search needs
+
+returns : tie.Need-returns
+unfolding hostRefusal buffered
+returns c =
+    let e = ap (λ (x : Reading). x .refusal) (c .before .read-component .ensures) in
+    rw (← e, ne-eqb _ _ (c .if1 .taken), ne-eqb _ _ (c .if1 .taken)) (refl, refl)
+
+answer-requires : tie.Need-answer-requires
+answer-requires c κs = search needs
+
+cast-result-2 : tie.Need-cast-result-2
+cast-result-2 c = search needs
+
+same-length : tie.Need-same-length
+same-length c = search needs
+
+returns-2 : tie.Need-returns-2
+unfolding hostRefusal
+returns-2 c =
+    let r = c .before .before .before .before .before .before .read-component .ensures in
+    let z = sym (ap (λ (x : Reading). x .refusal) r) ∙ c .before .before .before .before .before .if1 .left in
+    rw z (rw (← r) (c .before .before .answer .ensures))
+
+pub jougsilver-judge-spec : {M : Type 1} → statement M
+jougsilver-judge-spec =
+    tie.close
+    (tie.spec
+    read-component-requires
+    cast-result
+    returns
+    answer-requires
+    cast-result-2
+    same-length
+    returns-2)

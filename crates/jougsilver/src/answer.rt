@@ -1,0 +1,122 @@
+// The reply on one component, from the judge's answers.
+use budget::component::Component;
+use budget::quantity::Time;
+use budget::quantity::Units;
+use budget::refusal;
+use judge::answer::Judged;
+use judge::answer::Margined;
+use judge::answer::Verdict;
+use judge::margin::margin;
+use judge::signed::twos_complement;
+use judge::verdict::verdict;
+use sheet::reply::Reply;
+use sheet::reply::write_reply;
+ghost use mathlib.Core.Path.{_≡_};
+ghost use lib.ListN.{length};
+ghost use Rattle.jougsilver.specs.Answer.{refusalOf, capacityIn, verdictIn, replyOf, replyOn, answerRefusal};
+ghost use Rattle.judge.specs.Judged.{codeOf, instantOf};
+ghost use Rattle.judge.specs.Margin.{marginOf, marginInstantOf};
+ghost use Rattle.sheet.specs.Writing.{buffered};
+
+fn refusal_of(judged: Judged) -> u16
+    ensures { λ r. ⌜ r ≡ refusalOf judged ⌝ }
+{
+    match judged {
+        Judged::Refused(number) => number,
+        Judged::Answered(_, _) => refusal::NONE,
+    }
+}
+
+fn capacity_in(judged: Judged) -> Units
+    ensures { λ r. ⌜ r .0 ≡ capacityIn judged ⌝ }
+{
+    match judged {
+        Judged::Refused(_) => Units(0),
+        Judged::Answered(capacity, _) => capacity,
+    }
+}
+
+fn verdict_in(judged: Judged) -> Verdict
+    ensures { λ r. ⌜ r ≡ verdictIn judged ⌝ }
+{
+    match judged {
+        Judged::Refused(_) => Verdict::None,
+        Judged::Answered(_, verdict) => verdict,
+    }
+}
+
+fn code_of(verdict: Verdict) -> u16
+    ensures { λ r. ⌜ r ≡ codeOf verdict ⌝ }
+{
+    match verdict {
+        Verdict::Accepted => 0,
+        Verdict::Short(_) => 1,
+        Verdict::None => 2,
+    }
+}
+
+fn instant_of(verdict: Verdict) -> Time
+    ensures { λ r. ⌜ r .0 ≡ instantOf verdict ⌝ }
+{
+    match verdict {
+        Verdict::Accepted => Time(0),
+        Verdict::Short(instant) => instant,
+        Verdict::None => Time(0),
+    }
+}
+
+fn margin_of(margined: Margined) -> i32
+    ensures { λ r. ⌜ r ≡ marginOf margined ⌝ }
+{
+    match margined {
+        Margined::Refused(_) => 0,
+        Margined::Least(margin, _) => margin,
+        Margined::None => 0,
+    }
+}
+
+fn margin_instant_of(margined: Margined) -> Time
+    ensures { λ r. ⌜ r .0 ≡ marginInstantOf margined ⌝ }
+{
+    match margined {
+        Margined::Refused(_) => Time(0),
+        Margined::Least(_, instant) => instant,
+        Margined::None => Time(0),
+    }
+}
+
+fn reply_of(number: u16, judged: Judged, margined: Margined) -> Reply
+    ensures { λ r. ⌜ r ≡ replyOf number judged margined ⌝ }
+{
+    let verdict = verdict_in(judged);
+    let code = code_of(verdict);
+    let capacity = capacity_in(judged);
+    let instant = instant_of(verdict);
+    let margin = twos_complement(margin_of(margined));
+    let stands = margin_instant_of(margined);
+    Reply {
+        number,
+        code,
+        capacity,
+        instant,
+        margin,
+        stands,
+    }
+}
+
+// Puts the reply on a component into the host's buffer from a place on, and answers 0 or the refusal: 10, then 11.
+pub(crate) fn answer(component: Component, reply: &mut [u8], at: usize) -> u16
+    ensures answer { λ r. ⌜ r ≡ answerRefusal component (length (now (reply .entry))) at ⌝ }
+    ensures bytes { λ _. ⌜ now (reply .exit) ≡ buffered (answerRefusal component (length (now (reply .entry))) at) (now (reply .entry)) at (replyOn component) ⌝ }
+{
+    let judged = verdict(component);
+    let refused = refusal_of(judged);
+    if refused != refusal::NONE {
+        return refused;
+    }
+    let margined = margin(component);
+    let number = component.number;
+    let fields = reply_of(number, judged, margined);
+    let written = write_reply(reply, at, fields);
+    written.refusal
+}
