@@ -15,11 +15,11 @@ use Rattle.report.specs.Lines.{componentLine, endLine, lineAt, refusedLi
 use Rattle.report.specs.Text.{Put}
 
 -- what was put is the line asked for
-pub listed : {a b bytes l : List ℕ} {r : ℕ} → l ≡ bytes → Put a 0 bytes b r → (r ≡ length l) × (b ≡ sets a 0 l)
-listed {a} e p = (omega (arith, p .place, ap length e), p .line ∙ sym (ap (λ (bytes : List ℕ). sets a 0 bytes) e))
+pub listed : {a b bytes l : List ℕ} {r : ℕ} → l ≡ bytes → Put a 0 bytes b r → (r ≡ length l) × ((b ≡ sets a 0 l) × (r ≤ 64))
+listed {a} e p = (omega (arith, p .place, ap length e), (p .line ∙ sym (ap (λ (bytes : List ℕ). sets a 0 bytes) e), p .room))
 
 pub nothing-put : (a : List ℕ) → Put a 0 [] a 0
-nothing-put a = record { place = refl; line = refl }
+nothing-put a = record { place = refl; line = refl; room = omega arith }
 
 module _ (s : List ℕ) (k : ℕ) (d : Checked) (is : d ≡ check s) where
   module _ (h : d .refusal ≡ refusal.none → ⊥) where

@@ -20,4 +20,5 @@ put-then {a} {b} {c} {xs} {ys} {at} {mid} {r} p q =
           q .line
           ∙ (ap (λ (l : List ℕ). sets l mid ys) (p .line)
           ∙ (ap (λ (n : ℕ). sets (sets a at xs) n ys) (p .place) ∙ sym (sets-append a at xs ys)));
+      room = q .room;
     }

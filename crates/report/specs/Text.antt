@@ -1,5 +1,5 @@
 -- Numbers as text, and what putting bytes into a line does.
-use Prim.Native.Nat.{ℕ, zero, suc, _+_, _/_, _%_}
+use Prim.Native.Nat.{ℕ, zero, suc, _+_, _/_, _%_, _≤_}
 use mathlib.Core.Bool.{true, false}
 use mathlib.Core.List.{List, [], _∷_, _++_}
 use mathlib.Core.Path.{_≡_}
@@ -25,7 +25,8 @@ signedText (negsuc n) = 45 ∷ decimal (suc n)
 abbrev pub spaced : List ℕ → List ℕ
 spaced field = 32 ∷ field
 
--- these bytes were put into a line from a place on, and the place behind them is answered
+-- these bytes were put into a line of 64 from a place on, and the place behind them is answered
 pub record Put (before : List ℕ) (at : ℕ) (bytes after : List ℕ) (r : ℕ) : Type 0 where
   pub place : r ≡ at + length bytes
   pub line : after ≡ sets before at bytes
+  pub room : r ≤ 64

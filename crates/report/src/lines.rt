@@ -131,6 +131,7 @@ fn put_component(line: &mut Line, component: Component) -> usize
 pub fn listing_line(sheet: &[u8], index: usize, line: &mut Line) -> usize
     ensures { λ r. ⌜ r ≡ length (lineAt (now (sheet .entry)) index) ⌝ }
     ensures { λ r. ⌜ now (line .exit) ≡ sets (now (line .entry)) 0 (lineAt (now (sheet .entry)) index) ⌝ }
+    ensures { λ r. ⌜ r ≤ 64 ⌝ }
 {
     let checked = check_sheet(sheet);
     let number = checked.refusal;

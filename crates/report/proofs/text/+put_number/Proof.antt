@@ -70,6 +70,7 @@ put-number-returns t c =
       line =
           ap (λ (d : ℕ). set (a .line .now) (a .at) (48 + d)) (mod-eq-of-lt (omega arith))
           ∙ sym (ap (λ (ds : List ℕ). sets (a .line .now) (a .at) ds) (decimal-one (a .n) (c .if1 .taken)));
+      room = omega (arith, length-one (a .n) (c .if1 .taken));
     }
 
 put-number-put-number-requires : (t : ℕ) → put-number-lts.Need-put-number-requires (
@@ -116,6 +117,7 @@ put-number-returns-2 t c =
         sets-last (a .line .now) (a .at) (decimal (a .n / 10)) (48 + a .n % 10),
         ap (λ (ds : List ℕ). sets (a .line .now) (a .at) ds) (decimal-more (a .n) h),
       );
+      room = omega (arith, length-more (a .n) h, c .put-number .ensures .place);
     }
 
 pub +put-number-spec : {M : Type 1} → statement M

@@ -56,7 +56,7 @@ returns : tie.Need-returns Inv-loop μ-loop
 returns c =
     let a = c .before .before .args in
     let l = c .before .loop in
-    record { place = omega arith; line = l .inv .1 ∙ ap (λ (xs : List ℕ). sets (a .line .now) (a .at) xs) (take-all (l .i) (a .word .now) (omega arith)) }
+    record { place = omega arith; line = l .inv .1 ∙ ap (λ (xs : List ℕ). sets (a .line .now) (a .at) xs) (take-all (l .i) (a .word .now) (omega arith)); room = omega arith }
 
 pub put-word-spec : {M : Type 1} → statement M
 put-word-spec =
