@@ -20,7 +20,7 @@ use Rattle.budget.proofs.Valid.{valid-task, valid-interface, both}
 use Rattle.sheet.specs.declared.check.Span.{Span}
 use Rattle.sheet.specs.declared.check.State.{State}
 use Rattle.sheet.specs.Layout.{headBytes, headSize, taskBytes, endBytes}
-use Rattle.sheet.specs.Check.{refuse, ended, ranged, headRefusal, afterHead, judgedHead, afterTask, judgedTask, judgedEnd, judged, step, walk}
+use Rattle.sheet.specs.Check.{refuse, ended, ranged, numberRefusal, earlier, headRefusal, afterHead, judgedHead, afterTask, judgedTask, judgedEnd, judged, step, walk}
 use Rattle.sheet.specs.Part.{marked, noted}
 use Rattle.sheet.specs.Writing.{tasksBytes, componentBytes}
 use Rattle.sheet.specs.RoundTrip.{componentsBytes, Sound, Rising}
@@ -52,7 +52,7 @@ module _ (s : List ℕ) where
 
   head-step : (p count lowest tasks number period : ℕ) (c : Capacity) (deadline : ℕ) (tail : List ℕ) → count < 256 → lowest ≤ number → number < 65_536 → validInterface (interface period (unitsOf c) deadline) ≡ true
       → drop p s ≡ headBytes number period c deadline ++ tail → step s (on p count lowest tasks) ≡ on (p + headSize c) (count + 1) (number + 1) 0
-  unfolding step judged judgedHead headRefusal ranged afterHead interfaceRefusal
+  unfolding step judged judgedHead numberRefusal earlier headRefusal ranged afterHead interfaceRefusal
   head-step p count lowest tasks number period c deadline tail few low fits v e =
       let w = valid-interface (interface period (unitsOf c) deadline) v in
       let g : period < 256 ^ 4 = omega arith in

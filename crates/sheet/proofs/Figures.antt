@@ -8,7 +8,7 @@ use Rattle.budget.specs.Task.{taskRefusal, validTask}
 use Rattle.sheet.specs.declared.check.Checked.{Checked}
 use Rattle.sheet.specs.Field.{encode, field}
 use Rattle.sheet.specs.Layout.{statedBytes, askedBytes, headBytes, taskBytes, endBytes, headSize, statedAt, askedAt, taskAt, ofSize, ofKind, recordOf}
-use Rattle.sheet.specs.Check.{start, refuse, ended, ranged, headRefusal, afterHead, judgedHead, afterTask, judgedTask, judgedEnd, judged, step, walk, checkedOf, check}
+use Rattle.sheet.specs.Check.{start, refuse, ended, ranged, numberRefusal, earlier, headRefusal, afterHead, judgedHead, afterTask, judgedTask, judgedEnd, judged, step, walk, checkedOf, check}
 
 abbrev answer : ℕ → ℕ → ℕ → Checked
 answer n p count = record { refusal = n; place = p; count = count }
@@ -29,9 +29,9 @@ small count =
     ++ (headBytes 2 6 Asked 4 ++ endBytes count))
 
 two : check (small 2) ≡ answer 0 0 2
-unfolding small check walk step start judged judgedHead headRefusal headSize interfaceRefusal validInterface afterHead judgedTask taskRefusal validTask afterTask judgedEnd ended ranged refuse recordOf ofKind ofSize statedAt askedAt taskAt encode field statedBytes askedBytes headBytes taskBytes endBytes checkedOf
+unfolding small check walk step start judged judgedHead numberRefusal earlier headRefusal headSize interfaceRefusal validInterface afterHead judgedTask taskRefusal validTask afterTask judgedEnd ended ranged refuse recordOf ofKind ofSize statedAt askedAt taskAt encode field statedBytes askedBytes headBytes taskBytes endBytes checkedOf
 two = refl
 
 wrong-count : check (small 3) ≡ answer 8 48 0
-unfolding small check walk step start judged judgedHead headRefusal headSize interfaceRefusal validInterface afterHead judgedTask taskRefusal validTask afterTask judgedEnd ended ranged refuse recordOf ofKind ofSize statedAt askedAt taskAt encode field statedBytes askedBytes headBytes taskBytes endBytes checkedOf
+unfolding small check walk step start judged judgedHead numberRefusal earlier headRefusal headSize interfaceRefusal validInterface afterHead judgedTask taskRefusal validTask afterTask judgedEnd ended ranged refuse recordOf ofKind ofSize statedAt askedAt taskAt encode field statedBytes askedBytes headBytes taskBytes endBytes checkedOf
 wrong-count = refl

@@ -24,7 +24,7 @@ use Rattle.sheet.specs.declared.layout.Record.{Record}
 use Rattle.sheet.specs.declared.layout.Record.the-variants.{ComponentRecord, TaskRecord, EndRecord, NoRecord}
 use Rattle.sheet.specs.Field.{Bytes}
 use Rattle.sheet.specs.Layout.{headBytes, headSize, taskBytes, endBytes, recordBytes, sizeOf, recordOf}
-use Rattle.sheet.specs.Check.{start, refuse, ended, ranged, headRefusal, afterHead, judgedHead, afterTask, judgedTask, judgedEnd, judged, step, walk}
+use Rattle.sheet.specs.Check.{start, refuse, ended, ranged, numberRefusal, earlier, headRefusal, afterHead, judgedHead, afterTask, judgedTask, judgedEnd, judged, step, walk}
 use Rattle.sheet.specs.RoundTrip.{componentsBytes, returned, Sound, Rising}
 use Rattle.sheet.specs.Reading.{withHead}
 use Rattle.sheet.specs.Writing.{tasksBytes, componentBytes}
@@ -66,6 +66,15 @@ module _ (f : ℕ) (s : List ℕ) where
   unfolding ranged
   in-range-of n st next =
       cases (λ (x : State). Accepts x → (n ≡ 0) × Accepts next) (eqb n 0) (λ p a. (eqb-true n 0 p, a)) (λ p a. absurd (refused-not n st (eqb-false n 0 p) a))
+
+-- what two refusals in order, and that of a number, show where there is none
+neither : (a b : ℕ) → earlier a b ≡ 0 → (a ≡ 0) × (b ≡ 0)
+unfolding earlier
+neither a b = cases (λ (n : ℕ). n ≡ 0 → (a ≡ 0) × (b ≡ 0)) (eqb a 0) (λ p e. (eqb-true a 0 p, e)) (λ p e. absurd (eqb-false a 0 p e))
+
+rises : (number lowest : ℕ) → numberRefusal number lowest ≡ 0 → lowest ≤ number
+unfolding numberRefusal
+rises number lowest = cases (λ (n : ℕ). n ≡ 0 → lowest ≤ number) (ltb number lowest) (λ p e. absurd (omega (arith, e))) (λ p e. ltb-false number lowest p)
 
 -- ---- one record, by its kind; what the walk accepts behind it has a shape
 
@@ -146,10 +155,10 @@ module _ (f : ℕ) (s : List ℕ) (st : State) (left : ℕ) where
       → (st .count < 256 → Accepts f s (afterHead st h) → Shape s (st .place + headSize (h .capacity)) (st .count + 1) (h .number + 1) 0) → Here f s st left
   unfolding judged judgedHead Here tasksBytes componentsBytes validTasks withHead
   head-shape h w a low next =
-      let after = ranged (headRefusal h) st (afterHead st h) in
-      let x = passes f s (leb 256 (st .count)) 7 st (cond (ltb (h .number) (st .lowest)) (refuse 5 st) after) (λ e. omega (arith, e)) a in
-      let y = passes f s (ltb (h .number) (st .lowest)) 5 st after (λ e. omega (arith, e)) (x .1) in
-      let z = in-range-of f s (headRefusal h) st (afterHead st h) (y .1) in
+      let order = earlier (numberRefusal (h .number) (st .lowest)) (headRefusal h) in
+      let x = passes f s (leb 256 (st .count)) 7 st (ranged order st (afterHead st h)) (λ e. omega (arith, e)) a in
+      let z = in-range-of f s order st (afterHead st h) (x .1) in
+      let y = neither (numberRefusal (h .number) (st .lowest)) (headRefusal h) (z .0) in
       let n = next (leb-false 256 (st .count) (x .0)) (z .1) in
       let c = withHead h (n .ks) in
       let m : st .count + 1 + length (n .cs) ≡ st .count + suc (length (n .cs)) = omega arith in
@@ -163,7 +172,7 @@ module _ (f : ℕ) (s : List ℕ) (st : State) (left : ℕ) where
         valid = refl;
         few = omega arith;
         none = λ e. refl;
-        rising = (ltb-false (h .number) (st .lowest) (y .0), sound-head h (n .ks) (w .0) (z .0) (omega (arith, n .few)) (n .valid), n .rising);
+        rising = (rises (h .number) (st .lowest) (y .0), sound-head h (n .ks) (w .0) (y .1) (omega (arith, n .few)) (n .valid), n .rising);
         most = omega (arith, n .most);
         same = ap₂ _∷_ (same-head h (n .ks)) (n .same);
       }

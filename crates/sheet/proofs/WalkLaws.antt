@@ -7,7 +7,7 @@ use native.Mathlib.Omega.{arith}
 use lib.ListN.{length, take, drop, length-drop}
 use lib.Seq.{take-all}
 use native.Mathlib.Nat.{le-of-eq}
-use lib.Dec.{leb, ltb, eqb}
+use lib.Dec.{leb, eqb}
 use Rattle.budget.specs.declared.component.Capacity.{Capacity}
 use Rattle.budget.specs.declared.component.Capacity.the-variants.{Stated, Asked}
 use Rattle.sheet.specs.declared.check.Span.{Span}
@@ -15,7 +15,7 @@ use Rattle.sheet.specs.declared.check.State.{State}
 use Rattle.sheet.specs.declared.layout.Record.{Record}
 use Rattle.sheet.specs.declared.layout.Record.the-variants.{ComponentRecord, TaskRecord, EndRecord, NoRecord}
 use Rattle.sheet.specs.Layout.{headSize, sizeOf, recordOf}
-use Rattle.sheet.specs.Check.{start, refuse, ended, ranged, headRefusal, afterHead, judgedHead, afterTask, judgedTask, judgedEnd, judged, step, walk}
+use Rattle.sheet.specs.Check.{start, refuse, ended, ranged, numberRefusal, earlier, headRefusal, afterHead, judgedHead, afterTask, judgedTask, judgedEnd, judged, step, walk}
 use Rattle.sheet.specs.Part.{marked, noted, noSpan, spanOf, Found}
 use Rattle.sheet.proofs.Cases.{cases}
 use Rattle.sheet.proofs.RecordLaws.{size-within}
@@ -46,8 +46,7 @@ module _ (n : ℕ) (st : State) (h : st .place ≤ n) where
   judged-advances (ComponentRecord c) left w =
       let g = some-head (c .capacity) in
       cases (Advances n st) (leb 256 (st .count)) (λ p. refuse-advances _)
-      (λ p. cases (Advances n st) (ltb (c .number) (st .lowest)) (λ q. refuse-advances _)
-      (λ q. ranged-advances (headRefusal c) (afterHead st c) (record { kept = omega arith; within = w; goes = λ e. omega arith })))
+      (λ p. ranged-advances (earlier (numberRefusal (c .number) (st .lowest)) (headRefusal c)) (afterHead st c) (record { kept = omega arith; within = w; goes = λ e. omega arith }))
   judged-advances (TaskRecord k) left w =
       cases (Advances n st) (eqb (st .count) 0) (λ p. refuse-advances _)
       (λ p. cases (Advances n st) (leb 64 (st .tasks)) (λ q. refuse-advances _)

@@ -44,6 +44,14 @@ ranged n st next = cond (eqb n refusal.none) next (refuse n st)
 unfoldable pub headRefusal : Head → ℕ
 headRefusal h = interfaceRefusal (interface (h .period .0) (unitsOf (h .capacity)) (h .deadline .0))
 
+-- "component number not above the one before"
+unfoldable pub numberRefusal : ℕ → ℕ → ℕ
+numberRefusal number lowest = cond (ltb number lowest) refusal.number refusal.none
+
+-- of two refusals, the one that comes first in the order of the rules
+unfoldable pub earlier : ℕ → ℕ → ℕ
+earlier first second = cond (eqb first refusal.none) second first
+
 -- behind a component record: "component numbers rise strictly", so the next number is at least one more
 unfoldable pub afterHead : State → Head → State
 afterHead st h =
@@ -60,8 +68,7 @@ afterHead st h =
 unfoldable pub judgedHead : State → Head → State
 judgedHead st h =
     cond (leb most-components (st .count)) (refuse refusal.components st)
-    (cond (ltb (h .number) (st .lowest)) (refuse refusal.number st)
-    (ranged (headRefusal h) st (afterHead st h)))
+    (ranged (earlier (numberRefusal (h .number) (st .lowest)) (headRefusal h)) st (afterHead st h))
 
 -- behind a task record, which is 16 bytes long
 unfoldable pub afterTask : State → State

@@ -14,7 +14,7 @@ ghost use Prim.Native.Nat.{_+_, _≤_, _<_};
 ghost use lib.ListN.{length};
 ghost use Rattle.budget.specs.Component.{unitsOf};
 ghost use Rattle.sheet.specs.Layout.{headSize, sizeOf};
-ghost use Rattle.sheet.specs.Check.{refuse, ranged, headRefusal, afterHead, afterTask, judgedHead, judgedTask, judgedEnd, judged, step, check, checkedOf};
+ghost use Rattle.sheet.specs.Check.{refuse, ranged, numberRefusal, earlier, headRefusal, afterHead, afterTask, judgedHead, judgedTask, judgedEnd, judged, step, check, checkedOf};
 ghost use Rattle.sheet.specs.Part.{marked, Found};
 
 // Most bytes of a sheet, and most components.
@@ -124,6 +124,27 @@ fn after_head(state: State, head: Head) -> State
     }
 }
 
+// The refusal of a number that is not above the one before.
+fn check_number(number: u16, lowest: u32) -> u16
+    ensures { λ r. ⌜ r ≡ numberRefusal number lowest ⌝ }
+{
+    let number = number as u32;
+    if number < lowest {
+        return refusal::NUMBER;
+    }
+    refusal::NONE
+}
+
+// The refusal that comes first in the order of the rules.
+fn earlier(first: u16, second: u16) -> u16
+    ensures { λ r. ⌜ r ≡ earlier first second ⌝ }
+{
+    if first == refusal::NONE {
+        return second;
+    }
+    first
+}
+
 fn judge_head(state: State, head: Head) -> State
     requires { ⌜ state .place + headSize (head .capacity) ≤ 65_536 ⌝ }
     ensures { λ r. ⌜ r ≡ judgedHead state head ⌝ }
@@ -132,14 +153,11 @@ fn judge_head(state: State, head: Head) -> State
     if MOST_COMPONENTS <= count {
         return refuse(refusal::COMPONENTS, state);
     }
-    let number = head.number as u32;
-    let lowest = state.lowest;
-    if number < lowest {
-        return refuse(refusal::NUMBER, state);
-    }
-    let next = after_head(state, head);
+    let rises = check_number(head.number, state.lowest);
     let range = check_head(head);
-    ranged(range, state, next)
+    let refused = earlier(rises, range);
+    let next = after_head(state, head);
+    ranged(refused, state, next)
 }
 
 fn after_task(state: State) -> State
