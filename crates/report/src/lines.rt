@@ -46,9 +46,9 @@ fn put_least(line: &mut Line, at: usize, margin: i32, instant: u32) -> usize
     requires { ⌜ at ≤ 38 ⌝ }
     ensures { λ r. ⌜ Put (now (line .entry)) at (behind (signedText margin ∷ decimal instant ∷ [])) (now (line .exit)) r ⌝ }
 {
-    let first = put_signed(line, at, margin);
-    let second = put_field(line, first, instant as usize);
-    put_word(line, second, b"\n")
+    let next = put_signed(line, at, margin);
+    let last = put_field(line, next, instant as usize);
+    put_word(line, last, b"\n")
 }
 
 // The last fields of an accepted or short component, and the newline.
