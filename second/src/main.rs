@@ -1,5 +1,6 @@
 //! The second program: the rules in plain Rust, written from the rules alone, for the proved program to be held against.
 
+mod bench;
 mod calls;
 mod chance;
 mod coverage;
@@ -24,6 +25,8 @@ second sheets SEED COUNT DIR      sheets, sound and damaged, into the files 1, 2
 second list                the listing of the sheet on standard input
 second text                the sheet on standard input as text, one line a record
 second bytes               such a text on standard input as a sheet
+second rows                the rows of the benchmark, a line each
+second row PLACE KIND      the calls of a row (`walk`: the longest walk)
 second coverage            counts what the calls on standard input reach, and fails if something is not reached";
 
 fn input() -> Result<Vec<u8>, String> {
@@ -67,6 +70,17 @@ fn command(words: &[&str]) -> Result<(), String> {
             for kind in generate::KINDS {
                 said(writeln!(out, "{kind}"))?;
             }
+        }
+        ["rows"] => {
+            for row in bench::rows() {
+                said(writeln!(out, "{}", row.name))?;
+            }
+        }
+        ["row", "walk"] => said(out.write_all(bench::walk().as_bytes()))?,
+        ["row", place, kind] if bench::KINDS.contains(kind) => {
+            let rows = bench::rows();
+            let row = place.parse::<usize>().ok().and_then(|place| rows.get(place)).ok_or(USAGE)?;
+            said(out.write_all(bench::calls(row, kind).as_bytes()))?;
         }
         ["list"] => said(out.write_all(listing::listing(&input()?).as_bytes()))?,
         ["text"] => said(out.write_all(text::text(&input()?)?.as_bytes()))?,

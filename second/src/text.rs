@@ -1,6 +1,6 @@
 //! A sheet as plain text, one line a record, and back.
 //!
-//! `component NUMBER stated Θ Π Δ`, `component NUMBER asked Π Δ`, `task T C D`, `end COUNT`; an empty line or one that
+//! `component NUMBER stated Π Θ Δ`, `component NUMBER asked Π Δ`, `task T C D`, `end COUNT`; an empty line or one that
 //! begins with `#` is passed over. The bytes are those of the records as written down: whether they make a sheet is the
 //! reader's to say.
 
@@ -21,7 +21,7 @@ pub fn bytes(text: &str) -> Result<Vec<u8>, String> {
 
 fn record(words: &[&str], all: &mut Vec<u8>) -> Result<(), String> {
     match words {
-        ["component", own, "stated", capacity, period, deadline] => {
+        ["component", own, "stated", period, capacity, deadline] => {
             sheet::begin(all, sheet::STATED);
             all.extend(parse::<u16>(own)?.to_le_bytes());
             sheet::times(all, &[parse(period)?, parse(capacity)?, parse(deadline)?]);
@@ -36,7 +36,7 @@ fn record(words: &[&str], all: &mut Vec<u8>) -> Result<(), String> {
             sheet::times(all, &[parse(period)?, parse(work)?, parse(deadline)?]);
         }
         ["end", count] => all.extend(sheet::end_bytes(parse(count)?)),
-        _ => return Err("expected `component NUMBER stated Θ Π Δ`, `component NUMBER asked Π Δ`, `task T C D` or `end COUNT`".into()),
+        _ => return Err("expected `component NUMBER stated Π Θ Δ`, `component NUMBER asked Π Δ`, `task T C D` or `end COUNT`".into()),
     }
     Ok(())
 }
@@ -53,7 +53,7 @@ pub fn text(sheet: &[u8]) -> Result<String, String> {
         let (kind, fields) = sheet::record(sheet, at).map_err(|refusal| format!("byte {at}: refused {refusal}"))?;
         let time = |place| sheet::time(fields, place);
         lines += &match kind {
-            sheet::STATED => format!("component {} stated {} {} {}\n", sheet::number(fields, 4), time(10), time(6), time(14)),
+            sheet::STATED => format!("component {} stated {} {} {}\n", sheet::number(fields, 4), time(6), time(10), time(14)),
             sheet::ASKED => format!("component {} asked {} {}\n", sheet::number(fields, 4), time(6), time(10)),
             sheet::TASK => format!("task {} {} {}\n", time(4), time(8), time(12)),
             _ => format!("end {}\n", sheet::number(fields, 4)),
@@ -69,7 +69,7 @@ mod tests {
 
     #[test]
     fn text_and_bytes_undo_each_other() {
-        let written = "component 1 stated 2 6 4\ntask 8 2 8\ncomponent 2 asked 6 4\nend 2\n";
+        let written = "component 1 stated 6 2 4\ntask 8 2 8\ncomponent 2 asked 6 4\nend 2\n";
         let sheet = bytes(written).unwrap();
         assert_eq!(sheet.len(), 18 + 16 + 14 + 6);
         assert_eq!(text(&sheet).unwrap(), written);

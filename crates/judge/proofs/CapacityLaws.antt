@@ -1,5 +1,5 @@
 -- The smallest capacity: supply grows with it, so what each instant needs can be taken one by one.
-use Prim.Native.Nat.{ℕ, zero, suc, _+_, _-_, _/_, _≤_, _<_, suc-le-suc}
+use Prim.Native.Nat.{ℕ, suc, _+_, _≤_, _<_, suc-le-suc}
 use mathlib.Core.Path.{_≡_, refl, sym, _∙_, ap, subst}
 use mathlib.Core.Bool.{Bool, true, false}
 use mathlib.Core.List.{List}
@@ -18,7 +18,7 @@ use Rattle.budget.proofs.SupplyLaws.{supply-capacity}
 use Rattle.budget.proofs.Valid.{ValidInterface, valid-interface, interface-valid}
 use Rattle.judge.specs.Capacity.{Raised, smallestCapacity, capacityOf}
 use Rattle.judge.specs.Verdict.{accepts}
-use Rattle.judge.proofs.SearchLaws.{Smallest, smallest-is, smallest-only}
+use Rattle.judge.proofs.SearchLaws.{smallest-only}
 use Rattle.judge.proofs.VerdictLaws.{FitsBefore, fits-start, fits-on, accepts-fits, fits-accepts}
 
 -- halving: every capacity from `from` and below `low` is short, and `high` is enough or past the deadline

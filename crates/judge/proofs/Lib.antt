@@ -2,6 +2,7 @@ pub mod CapacityLaws
 pub mod Instants
 pub mod MarginLaws
 pub mod MarginRight
+pub mod SameAnswers
 pub mod SearchLaws
 pub mod SignedLaws
 pub mod StepLaws

@@ -6,9 +6,9 @@ use mathlib.Core.Bool.{Bool, true, false, cond}
 use mathlib.Core.List.{List}
 use lib.Dec.{ltb, eqb}
 use lib.ListN.{length, length-take}
-use borrow.Author.Tests.{lt-ltb, le-ltb, ltb-true, ltb-false, eqb-true, eqb-false}
+use borrow.Author.Tests.{le-ltb, ltb-true, ltb-false, eqb-true, eqb-false}
 use native.Mathlib.Decide.{decLe}
-use native.Mathlib.Nat.{not-suc-le-zero, le-of-eq, le-of-suc-le-suc, le-trans, mul-le-mul, eq-or-lt-of-le, not-le-of-lt}
+use native.Mathlib.Nat.{not-suc-le-zero, le-of-eq, le-of-lt, le-of-suc-le-suc, le-trans, mul-le-mul, eq-or-lt-of-le, not-le-of-lt}
 use native.Mathlib.Omega.{arith}
 use Rattle.budget.specs.declared.interface.Interface.{Interface}
 use Rattle.budget.specs.declared.task.Table.{Table}
@@ -117,70 +117,52 @@ module _ (ks : List Task) (i : Interface) where
   abbrev pub Known : ℕ → ℕ → Type 0
   Known n t = ((t ≡ 0) × ((p : ℕ) → suc p ≤ n → ¬ Step ks p)) ⊎ Tightest ks i n t
 
-  -- one instant more: it is no step instant, the first step instant, tighter than the tightest, or not
-  known-same : (n m : ℕ) → demand ks (suc n) ≤ demand ks n → Known n m → Known (suc n) m
-  known-same n m h (inl k) = inl (k .0, λ p l s. ⊎-elim (λ e. not-le-of-lt s (subst (λ (x : ℕ). demand ks (suc x) ≤ demand ks x) (sym e) h)) (λ g. k .1 p g s) (up-to p n l))
-  known-same n m h (inr t) =
-      inr
-      (record {
+  -- one instant more: it becomes the tightest where every step instant before it is less tight, and changes nothing where it is no tighter
+  newest : (n : ℕ) → Step ks n → ((p : ℕ) → suc p ≤ n → Step ks p → supply i (suc n) + demand ks (suc p) < supply i (suc p) + demand ks (suc n)) → Tightest ks i (suc n) (suc n)
+  newest n s tighter =
+      record {
+        before = n;
+        is = refl;
+        step = s;
+        within = omega arith;
+        least = λ p l r.
+            ⊎-elim
+            (λ e. subst (λ (x : ℕ). supply i (suc n) + demand ks (suc x) ≤ supply i (suc x) + demand ks (suc n)) (sym e) (omega arith))
+            (λ g. le-of-lt (tighter p g r))
+            (up-to p n l);
+        first = λ p l r. tighter p (le-of-suc-le-suc l) r;
+      }
+
+  older : (n m : ℕ) → Tightest ks i n m → (Step ks n → supply i m + demand ks (suc n) ≤ supply i (suc n) + demand ks m) → Tightest ks i (suc n) m
+  older n m t looser =
+      record {
         before = t .before;
         is = t .is;
         step = t .step;
         within = omega (arith, t .within);
-        least = λ p l s.
+        least = λ p l.
             ⊎-elim
-            (λ e. absurd (not-le-of-lt s (subst (λ (x : ℕ). demand ks (suc x) ≤ demand ks x) (sym e) h)))
-            (λ g. t .least p g s)
+            (λ e. subst (λ (x : ℕ). Step ks x → supply i m + demand ks (suc x) ≤ supply i (suc x) + demand ks m) (sym e) looser)
+            (λ g. t .least p g)
             (up-to p n l);
         first = t .first;
-      })
-
-  known-first : (n : ℕ) → Step ks n → ((p : ℕ) → suc p ≤ n → ¬ Step ks p) → Tightest ks i (suc n) (suc n)
-  known-first n s nothing =
-      record {
-        before = n;
-        is = refl;
-        step = s;
-        within = omega arith;
-        least = λ p l r.
-            ⊎-elim (λ e. le-of-eq (ap (λ (x : ℕ). supply i (suc n) + demand ks (suc x)) e ∙ ap (λ (x : ℕ). supply i (suc x) + demand ks (suc n)) (sym e))) (λ g. absurd (nothing p g r)) (up-to p n l);
-        first = λ p l r. absurd (nothing p (le-of-suc-le-suc l) r);
       }
 
-  known-tighter : (n m : ℕ) → Step ks n → Tightest ks i n m → supply i (suc n) + demand ks m < supply i m + demand ks (suc n) → Tightest ks i (suc n) (suc n)
-  known-tighter n m s t h =
-      record {
-        before = n;
-        is = refl;
-        step = s;
-        within = omega arith;
-        least = λ p l r.
-            ⊎-elim (λ e. le-of-eq (ap (λ (x : ℕ). supply i (suc n) + demand ks (suc x)) e ∙ ap (λ (x : ℕ). supply i (suc x) + demand ks (suc n)) (sym e))) (λ g. omega (arith, t .least p g r)) (up-to p n l);
-        first = λ p l r. omega (arith, t .least p (le-of-suc-le-suc l) r);
-      }
-
-  known-not : (n m : ℕ) → Tightest ks i n m → supply i m + demand ks (suc n) ≤ supply i (suc n) + demand ks m → Tightest ks i (suc n) m
-  known-not n m t h =
-      record {
-        before = t .before;
-        is = t .is;
-        step = t .step;
-        within = omega (arith, t .within);
-        least = λ p l r.
-            ⊎-elim (λ e. subst (λ (x : ℕ). supply i m + demand ks (suc x) ≤ supply i (suc x) + demand ks m) (sym e) h) (λ g. t .least p g r) (up-to p n l);
-        first = t .first;
-      }
+  -- no step instant
+  still-known : (n m : ℕ) → ¬ Step ks n → Known n m → Known (suc n) m
+  still-known n m h (inl k) = inl (k .0, λ p l. ⊎-elim (λ e. subst (λ (x : ℕ). ¬ Step ks x) (sym e) h) (λ g. k .1 p g) (up-to p n l))
+  still-known n m h (inr t) = inr (older n m t (λ s. absurd (h s)))
 
   known-more : (n m : ℕ) → Known n m → (a b c : Bool) → ltb (demand ks n) (demand ks (suc n)) ≡ a → eqb m 0 ≡ b
       → ltb (supply i (suc n) + demand ks m) (supply i m + demand ks (suc n)) ≡ c
       → Known (suc n) (cond a (cond b (tightAt ks i (suc n)) (cond c (tightAt ks i (suc n)) (tightAt ks i m))) (tightAt ks i m) .at)
   unfolding tightAt
-  known-more n m k false b c e f g = known-same n m (ltb-false _ _ e) k
-  known-more n m (inl k) true true c e f g = inr (known-first n (ltb-true _ _ e) (k .1))
+  known-more n m k false b c e f g = still-known n m (λ s. not-le-of-lt s (ltb-false _ _ e)) k
+  known-more n m (inl k) true true c e f g = inr (newest n (ltb-true _ _ e) (λ p l s. absurd (k .1 p l s)))
   known-more n m (inr t) true true c e f g = absurd (omega (arith, eqb-true m 0 f, t .is))
   known-more n m (inl k) true false c e f g = absurd (eqb-false m 0 f (k .0))
-  known-more n m (inr t) true false true e f g = inr (known-tighter n m (ltb-true _ _ e) t (ltb-true _ _ g))
-  known-more n m (inr t) true false false e f g = inr (known-not n m t (ltb-false _ _ g))
+  known-more n m (inr t) true false true e f g = inr (newest n (ltb-true _ _ e) (λ p l s. omega (arith, t .least p l s, ltb-true (supply i (suc n) + demand ks m) (supply i m + demand ks (suc n)) g)))
+  known-more n m (inr t) true false false e f g = inr (older n m t (λ s. ltb-false _ _ g))
 
   pub tight-known : (n : ℕ) → Known n (tightInstant ks i n)
   unfolding tightInstant tried tightAt

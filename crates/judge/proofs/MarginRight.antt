@@ -1,15 +1,15 @@
 -- What the margin promises: it is the least over the step instants up to L with its first instant, and no other answer is; it is negative exactly where the
 -- verdict is short, since the first short instant is a step instant; and for an accepted component no step instant past L has a smaller one.
-use Prim.Native.Nat.{ℕ, zero, suc, _+_, _*_, _-_, _≤_, _<_}
+use Prim.Native.Nat.{ℕ, zero, suc, _+_, _-_, _≤_, _<_}
 use mathlib.Core.Path.{_≡_, refl, sym, _∙_, ap, ap₂, subst}
-use mathlib.Core.Logic.{_⊎_, inl, inr, ⊎-elim}
+use mathlib.Core.Logic.{_⊎_, inl, inr}
 use mathlib.Core.Bool.{Bool, true, false, not, cond}
 use mathlib.Core.List.{List, [], _∷_}
 use lib.Dec.{ltb, eqb}
 use lib.IntN.{ℤ, pos, negsuc, subℕ}
 use borrow.Author.Tests.{lt-ltb, le-ltb, eq-eqb, ne-eqb}
 use native.Mathlib.Decide.{decLe}
-use native.Mathlib.Nat.{le-trans, le-antisymm, lt-of-not-le, not-le-of-lt, le-of-dvd, le-of-suc-le-suc, mul-le-mul}
+use native.Mathlib.Nat.{le-antisymm, lt-of-not-le, le-of-dvd, mul-le-mul}
 use native.Mathlib.Omega.{arith}
 use Rattle.budget.specs.declared.interface.Interface.{Interface}
 use Rattle.budget.specs.declared.task.Task.{Task}
@@ -17,7 +17,7 @@ use Rattle.budget.specs.CommonPeriod.{commonPeriod}
 use Rattle.budget.specs.Demand.{demand, jobsBy}
 use Rattle.budget.specs.Interface.{Π}
 use Rattle.budget.specs.Supply.{supply}
-use Rattle.budget.specs.Task.{T, C, D, validTasks}
+use Rattle.budget.specs.Task.{T, D, validTasks}
 use Rattle.budget.proofs.CommonPeriodLaws.{common-positive, common-divides-at}
 use Rattle.budget.proofs.DemandLaws.{demand-zero, demand-shift, jobs-fixed, jobs-mono}
 use Rattle.budget.proofs.SupplyLaws.{supply-mono, supply-add}
@@ -26,7 +26,7 @@ use Rattle.judge.specs.declared.answer.Margined.{Margined}
 use Rattle.judge.specs.declared.answer.Margined.the-variants as Variant
 use Rattle.judge.specs.Margin.{Step, Tightest, MarginSays, tightInstant, marginAt, marginOn, marginOf}
 use Rattle.judge.specs.Signed.{isNegative}
-use Rattle.judge.specs.Verdict.{Accepted, ShortAt, accepts, firstShort}
+use Rattle.judge.specs.Verdict.{Accepted, ShortAt, accepts}
 use Rattle.judge.proofs.Instants.{no-smaller}
 use Rattle.judge.proofs.MarginLaws.{tight-known}
 use Rattle.judge.proofs.VerdictLaws.{accepts-fits, short-refuses}

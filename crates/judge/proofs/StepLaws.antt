@@ -2,8 +2,8 @@
 use Prim.Native.Nat.{ℕ, zero, suc, _+_, _*_, _-_, _≤_, _<_, suc-le-suc}
 use mathlib.Core.Path.{_≡_, refl, sym, _∙_, ap, ap₂, subst}
 use mathlib.Core.Logic.{_⊎_, inl, inr, ⊎-elim}
-use mathlib.Core.Bool.{Bool, true, false, cond}
-use mathlib.Core.List.{List, [], _∷_, _++_}
+use mathlib.Core.Bool.{true, cond}
+use mathlib.Core.List.{List, [], _∷_}
 use lib.Dec.{eqb}
 use lib.ListN.{length, getD, take, length-take}
 use lib.Seq.{take-suc, take-length, getD-take}
@@ -21,7 +21,7 @@ use Rattle.budget.proofs.DemandLaws.{jobs-next-after, jobs-same-until, jobs-at-
 use Rattle.budget.proofs.Places.{places}
 use Rattle.budget.proofs.Valid.{ValidTask, valid-at}
 use Rattle.judge.specs.declared.steps.Columns.{Columns}
-use Rattle.judge.specs.Steps.{Column, Columned, Passed, Next, Steppable, passed, dueWork}
+use Rattle.judge.specs.Steps.{Column, Columned, Passed, Steppable, passed, dueWork}
 
 -- the first deadline of a task after an instant
 abbrev pub nextDeadline : Task → ℕ → ℕ

@@ -1,6 +1,6 @@
 -- The first short instant: what a scan has shown of the instants passed, what it answers where it stops, and why the instants up to L decide.
 use Prim.Native.Nat.{ℕ, zero, suc, _≤_, _<_, suc-le-suc}
-use mathlib.Core.Path.{_≡_, refl, sym, _∙_, ap, subst}
+use mathlib.Core.Path.{_≡_, refl, ap}
 use mathlib.Core.Bool.{Bool, true, false, cond}
 use mathlib.Core.List.{List}
 use borrow.Author.Tests.{lt-ltb, le-ltb, ltb-true, ltb-false}
@@ -22,7 +22,7 @@ use Rattle.judge.specs.declared.answer.Verdict.{Verdict}
 use Rattle.judge.specs.declared.answer.Verdict.the-variants as Variant
 use Rattle.judge.specs.Verdict.{Accepted, ShortAt, Judgement, isShort, firstShort, accepts, verdictOn}
 use Rattle.judge.proofs.Instants.{enough}
-use Rattle.judge.proofs.SearchLaws.{Smallest, smallest-is, smallest-only}
+use Rattle.judge.proofs.SearchLaws.{smallest-is, smallest-only}
 
 -- every instant from 1 and before n fits
 abbrev pub FitsBefore : List Task → Interface → ℕ → Type 0

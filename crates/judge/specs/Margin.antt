@@ -1,7 +1,7 @@
 -- The margin (01, "Margin"): "The least supply minus demand over the step instants t from 1 to L, where demand at t exceeds demand at t−1, with the
 -- smallest such instant."
 use Prim.Native.Nat.{ℕ, zero, suc, _+_, _*_, _≤_, _<_}
-use mathlib.Core.Bool.{Bool, true, false, cond}
+use mathlib.Core.Bool.{true, cond}
 use mathlib.Core.List.{List}
 use mathlib.Core.Path.{_≡_}
 use lib.Dec.{leb, ltb, eqb}

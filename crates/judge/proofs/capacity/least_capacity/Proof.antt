@@ -1,7 +1,7 @@
 -- `judge::capacity::least_capacity` meets its contract. The loop's invariant: the next deadlines and the demand are those of the instant before `at`, the
 -- capacity fits at every instant before `at`, and every smaller one is short. The measure is what is left of the instants.
 use Prim.Native.Nat.{_-_, _+_, _≤_}
-use mathlib.Core.Path.{_≡_, sym, _∙_, ap, subst}
+use mathlib.Core.Path.{sym}
 use native.Mathlib.Omega.{arith}
 use borrow.Author.Needs.{needs}
 use Rattle.budget.specs.Demand.{demand}
@@ -13,11 +13,6 @@ use Rattle.judge.proofs.CapacityLaws.{Found, found-start, found-end, fo
 use Rattle.judge.proofs.StepLaws.{Carried, Moved, carried-start, carried-steppable, carried-moved, carried-next}
 use Rattle.judge.proofs.capacity.least_capacity.Statement.{statement}
 use Rattle.judge.proofs.capacity.least_capacity.Tie as tie
-use Rattle.judge.proofs.capacity.least_capacity.Reads as reads
-use Rattle.judge.proofs.capacity.least_capacity.Lts as lts
-use Rattle.judge.proofs.capacity.raised.Reads as raised-reads
-use Rattle.judge.proofs.steps.columns_of.Reads as columns-of-reads
-use Rattle.judge.proofs.steps.pass.Reads as pass-reads
 
 abbrev Inv-loop : tie.InvT-loop
 Inv-loop table period deadline length periods works due₀ last demand₀ at₀ capacity₀ due demand at capacity =

@@ -2,15 +2,11 @@
 use Prim.Native.Nat.{_-_, _≤_}
 use native.Mathlib.Nat.{le-trans}
 use native.Mathlib.Omega.{arith}
-use borrow.Author.Needs.{needs}
 use Rattle.budget.specs.Limits.{limit}
 use Rattle.budget.proofs.Valid.{valid-interface}
 use Rattle.judge.proofs.CapacityLaws.{Halving, halving-start, halving-up, halving-down, halved, capacity-valid}
 use Rattle.judge.proofs.capacity.raised.Statement.{statement}
 use Rattle.judge.proofs.capacity.raised.Tie as tie
-use Rattle.judge.proofs.capacity.raised.Reads as reads
-use Rattle.judge.proofs.capacity.raised.Lts as lts
-use Rattle.judge.proofs.capacity.units_at.Reads as units-at-reads
 
 abbrev Inv-loop : tie.InvT-loop
 Inv-loop period from deadline at demand low₀ high₀ low high = Halving (period .0) (deadline .0) from at demand low high

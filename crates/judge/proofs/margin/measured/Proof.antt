@@ -1,6 +1,6 @@
 -- `judge::margin::measured` meets its contract: the tightest step instant, its supply minus its demand, or none.
 use Prim.Native.Nat.{ℕ}
-use mathlib.Core.Path.{_≡_, refl, sym, _∙_, ap, ap₂}
+use mathlib.Core.Path.{_≡_, sym, _∙_, ap, ap₂}
 use mathlib.Core.List.{List}
 use lib.IntN.{ℤ, subℕ}
 use mir.Syntax.{w32}
@@ -11,7 +11,7 @@ use Rattle.budget.specs.declared.interface.Interface.{Interface}
 use Rattle.budget.specs.declared.task.Task.{Task}
 use Rattle.judge.specs.declared.answer.Margined.the-variants as Variant
 use Rattle.judge.specs.declared.margin.Tight.{Tight}
-use Rattle.judge.specs.Margin.{marginOn, marginAt, tightAt, tightInstant}
+use Rattle.judge.specs.Margin.{marginOn, tightAt, tightInstant}
 use Rattle.judge.proofs.MarginLaws.{tight-small}
 use Rattle.judge.proofs.margin.measured.Statement.{statement}
 use Rattle.judge.proofs.margin.measured.Tie as tie

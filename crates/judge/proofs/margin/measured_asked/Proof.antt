@@ -1,6 +1,6 @@
 -- `judge::margin::measured_asked` meets its contract: the margin at the capacity that the walk up to L finds, or none.
 use Prim.Native.Nat.{ℕ, _≤_, _<_}
-use mathlib.Core.Path.{_≡_, refl, sym, _∙_}
+use mathlib.Core.Path.{_≡_}
 use borrow.Author.Needs.{needs}
 use borrow.Author.Tests.{le-leb, lt-leb}
 use Rattle.budget.specs.declared.component.Capacity.the-variants.{Asked}

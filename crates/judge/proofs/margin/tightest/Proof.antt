@@ -1,7 +1,6 @@
 -- `judge::margin::tightest` meets its contract. The loop's invariant: the next deadlines and the demand are those of the instant before `at`, and `best` is the
 -- tightest step instant before `at`. The measure is what is left of the instants.
 use Prim.Native.Nat.{_-_, _+_, _≤_}
-use mathlib.Core.Path.{_≡_}
 use native.Mathlib.Omega.{arith}
 use borrow.Author.Needs.{needs}
 use lib.ListN.{length}
@@ -13,8 +12,6 @@ use Rattle.judge.proofs.MarginLaws.{Best, best-start, best-next, best-s
 use Rattle.judge.proofs.StepLaws.{Carried, Moved, carried-start, carried-steppable, carried-moved, carried-next}
 use Rattle.judge.proofs.margin.tightest.Statement.{statement}
 use Rattle.judge.proofs.margin.tightest.Tie as tie
-use Rattle.judge.proofs.margin.tightest.Reads as reads
-use Rattle.judge.proofs.margin.tightest.Lts as lts
 
 abbrev Inv-loop : tie.InvT-loop
 Inv-loop table interface length period work due₀ demand₀ at₀ best₀ due demand at best =

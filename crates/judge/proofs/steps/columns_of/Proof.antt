@@ -10,8 +10,6 @@ use Rattle.judge.specs.Steps.{Column}
 use Rattle.judge.proofs.StepLoops.{column-none, column-more}
 use Rattle.judge.proofs.steps.columns_of.Statement.{statement}
 use Rattle.judge.proofs.steps.columns_of.Tie as tie
-use Rattle.judge.proofs.steps.columns_of.Reads as reads
-use Rattle.judge.proofs.steps.columns_of.Lts as lts
 
 abbrev Inv-loop : tie.InvT-loop
 Inv-loop tasks period₀ work₀ due₀ i₀ period work due i =

@@ -1,18 +1,14 @@
 -- `judge::steps::pass` meets its contract. The loop's invariant: the first `i` tasks have passed the instant, and the sum has grown by at most the limit for each.
 use Prim.Native.Nat.{ℕ, min, _-_, _≤_, _+_, _*_}
-use mathlib.Core.Path.{_≡_, refl, _∙_, ap}
+use mathlib.Core.Path.{_≡_, _∙_, ap}
 use mathlib.Core.Logic.{⊎-elim}
 use native.Mathlib.Omega.{arith}
 use borrow.Author.Needs.{needs}
-use lib.ListN.{length}
 use Rattle.budget.specs.Limits.{limit}
-use Rattle.judge.specs.Steps.{Passed, Steppable}
+use Rattle.judge.specs.Steps.{Passed}
 use Rattle.judge.proofs.StepLoops.{passed-none, passed-due, passed-later}
 use Rattle.judge.proofs.steps.pass.Statement.{statement}
 use Rattle.judge.proofs.steps.pass.Tie as tie
-use Rattle.judge.proofs.steps.pass.Reads as reads
-use Rattle.judge.proofs.steps.pass.Lts as lts
-use Rattle.judge.proofs.steps.earlier.Reads as earlier-reads
 
 abbrev Inv-loop : tie.InvT-loop
 Inv-loop period work due₀ count at demand sum₀ next₀ i₀ due sum next i =

@@ -16,11 +16,6 @@ use Rattle.judge.proofs.StepLaws.{Carried, Moved, carried-start, carrie
 use Rattle.judge.proofs.VerdictLaws.{FitsBefore, fits-start, fits-on, first-short-none, first-short-here}
 use Rattle.judge.proofs.verdict.first_short.Statement.{statement}
 use Rattle.judge.proofs.verdict.first_short.Tie as tie
-use Rattle.judge.proofs.verdict.first_short.Reads as reads
-use Rattle.judge.proofs.verdict.first_short.Lts as lts
-use Rattle.budget.proofs.supply.supply.Reads as supply-reads
-use Rattle.judge.proofs.steps.columns_of.Reads as columns-of-reads
-use Rattle.judge.proofs.steps.pass.Reads as pass-reads
 
 abbrev Inv-instants : tie.InvT-instants
 Inv-instants table interface length period work due₀ demand₀ at₀ due demand at = Carried table period work due at demand × FitsBefore (tasksOf table) interface at
@@ -31,29 +26,24 @@ abbrev μ-instants : tie.MeasureT-instants
 columns-of-requires : tie.Need-columns-of-requires Inv-instants μ-instants
 columns-of-requires c κs = search needs
 
-within : (s : tie.After-supply Inv-instants μ-instants) → s .before .before .before .before .before .before .instants .at ≤ s .before .before .before .before .before .before .before .before .before .before .before .args .length
-within s = s .before .before .before .before .before .if1 .left
+-- where the turn and the function began
+abbrev turn : tie.After-supply Inv-instants μ-instants → tie.Else1 Inv-instants μ-instants
+turn s = s .before .before .before .before .before
 
-in-limit : (s : tie.After-supply Inv-instants μ-instants) → s .before .before .before .before .before .before .instants .at ≤ limit
-in-limit s = omega (arith, within s, s .before .before .before .before .before .before .before .before .before .before .before .pre)
+abbrev start : tie.After-supply Inv-instants μ-instants → tie.Start Inv-instants μ-instants
+start s = turn s .before .before .before .before .before .before
+
+in-limit : (s : tie.After-supply Inv-instants μ-instants) → turn s .before .instants .at ≤ limit
+in-limit s = omega (arith, turn s .if1 .left, start s .pre .bounded)
 
 -- the step taken in this turn
 on : (s : tie.After-supply Inv-instants μ-instants)
-    → Moved (tasksOf (s .before .before .before .before .before .before .before .before .before .before .before .args .table)) (s .before .pass .last .1 .1 .0)
-    (s .before .before .before .before .before .before .instants .at) (s .before .pass .result .demand) (s .before .pass .result .next)
-on s =
-    let at = s .before .before .before .before .before .before in
-    let pre = at .before .before .before .before .before .pre in
-    carried-moved _ (pre .few) (pre .tasks) _ _ _ _ _ (in-limit s) (at .instants .inv .0) _ _ _ (s .before .pass .ensures)
+    → Moved (tasksOf (start s .args .table)) (s .before .pass .last .1 .1 .0) (turn s .before .instants .at) (s .before .pass .result .demand) (s .before .pass .result .next)
+on s = carried-moved _ (start s .pre .few) (start s .pre .tasks) _ _ _ _ _ (in-limit s) (turn s .before .instants .inv .0) _ _ _ (s .before .pass .ensures)
 
 -- the supply answered in this turn
-given : (s : tie.After-supply Inv-instants μ-instants)
-    → s .supply .result .units .0
-    ≡ supply (s .before .before .before .before .before .before .before .before .before .before .before .args .interface)
-    (s .before .before .before .before .before .before .instants .at)
-given s =
-    let pre = s .before .before .before .before .before .before .before .before .before .before .before .pre in
-    ap (λ (a : Amount). a .units .0) (s .supply .ensures ∙ supply-given _ _ (pre .interface) (in-limit s))
+given : (s : tie.After-supply Inv-instants μ-instants) → s .supply .result .units .0 ≡ supply (start s .args .interface) (turn s .before .instants .at)
+given s = ap (λ (a : Amount). a .units .0) (s .supply .ensures ∙ supply-given _ _ (start s .pre .interface) (in-limit s))
 
 instants-holds : tie.Need-instants-holds Inv-instants μ-instants
 instants-holds c =
@@ -75,28 +65,26 @@ supply-requires : tie.Need-supply-requires Inv-instants μ-instants
 supply-requires c κs = search needs
 
 instants-less : tie.Need-instants-less Inv-instants μ-instants
-instants-less c = omega (arith, within (c .before), on (c .before) .later)
+instants-less c = omega (arith, turn (c .before) .if1 .left, on (c .before) .later)
 
 instants-again : tie.Need-instants-again Inv-instants μ-instants
 instants-again c =
     let s = c .before in
-    let e = s .before .before .before .before .before in
-    let start = e .before .before .before .before .before .before in
-    let pre = start .pre in (
-      carried-next _ (pre .few) (pre .tasks) _ _ _ _ _ (in-limit s) (e .before .instants .inv .0) _ _ _ (s .before .pass .ensures),
-      fits-on _ _ (valid-interface _ (pre .interface)) _ _ (e .before .instants .inv .1) (omega (arith, c .if2 .left, given s, on s .known)) (on s .still),
+    let pre = start s .pre in
+    let inv = turn s .before .instants .inv in (
+      carried-next _ (pre .few) (pre .tasks) _ _ _ _ _ (in-limit s) (inv .0) _ _ _ (s .before .pass .ensures),
+      fits-on _ _ (valid-interface _ (pre .interface)) _ _ (inv .1) (omega (arith, c .if2 .left, given s, on s .known)) (on s .still),
     )
 
 returns : tie.Need-returns Inv-instants μ-instants
-returns c =
-    rw add-one (sym (first-short-none _ _ _ _ (c .before .instants .inv .1) (c .if1 .taken)))
+returns c = rw add-one (sym (first-short-none _ _ _ _ (c .before .instants .inv .1) (c .if1 .taken)))
 
 returns-2 : tie.Need-returns-2 Inv-instants μ-instants
 returns-2 c =
     let s = c .before in
-    let e = s .before .before .before .before .before in
+    let inv = turn s .before .instants .inv in
     sym
-    (first-short-here _ _ _ _ (omega (arith, e .before .instants .inv .0 .ready .is)) (within s) (e .before .instants .inv .1)
+    (first-short-here _ _ _ _ (omega (arith, inv .0 .ready .is)) (turn s .if1 .left) (inv .1)
     (omega (arith, c .if2 .taken, given s, on s .known)))
 
 pub first-short-spec : {M : Type 1} → statement M

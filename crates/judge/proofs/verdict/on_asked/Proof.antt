@@ -1,6 +1,6 @@
 -- `judge::verdict::on_asked` meets its contract: the walk up to L finds the smallest capacity, or passes the deadline.
 use Prim.Native.Nat.{ℕ, _≤_, _<_}
-use mathlib.Core.Path.{_≡_, refl}
+use mathlib.Core.Path.{_≡_}
 use borrow.Author.Needs.{needs}
 use borrow.Author.Tests.{le-leb, lt-leb}
 use Rattle.budget.specs.declared.component.Capacity.the-variants.{Asked}

@@ -1,6 +1,6 @@
 -- `judge::verdict::on_stated` meets its contract: the scan up to L passes L, or stops at the first short instant.
 use Prim.Native.Nat.{ℕ, _≤_, _<_}
-use mathlib.Core.Path.{_≡_, refl, sym}
+use mathlib.Core.Path.{_≡_}
 use borrow.Author.Needs.{needs}
 use borrow.Author.Tests.{lt-ltb, le-ltb}
 use Rattle.budget.specs.declared.component.Capacity.the-variants.{Stated}

@@ -1,5 +1,4 @@
 -- `judge::verdict::verdict` meets its contract: the refusal of the common period's answer, or the answer on the capacity stated or asked.
-use Prim.Native.Nat.{ℕ}
 use mathlib.Core.Path.{_≡_, sym, _∙_, ap}
 use native.Mathlib.Omega.{arith}
 use borrow.Author.Needs.{needs}
