@@ -282,12 +282,13 @@ impl Seen {
                 self.add_if((0..jobs.tasks.len()).any(|job| deadline(job) > end), "walk: a deadline after the trace's end");
             }
             Call::Margin(component) => {
-                let (Capacity::Stated(units), Ok(common)) = (component.capacity, component.common_period()) else { return };
-                let (interface, table) = (component.interface(units), &component.table);
-                let steps = (1..=common.min(10_000)).filter(|&t| demand::demand(table, t) > demand::demand(table, t - 1));
-                let margins: Vec<i64> = steps.map(|t| supply::supply(&interface, t) as i64 - demand::demand(table, t) as i64).collect();
-                let least = margins.iter().min();
-                self.add_if(margins.iter().filter(|margin| Some(*margin) == least).count() > 1, "tie: two step instants with the least margin");
+                if let (Capacity::Stated(units), Ok(common)) = (component.capacity, component.common_period()) {
+                    let (interface, table) = (component.interface(units), &component.table);
+                    let steps = (1..=common.min(10_000)).filter(|&t| demand::demand(table, t) > demand::demand(table, t - 1));
+                    let margins: Vec<i64> = steps.map(|t| supply::supply(&interface, t) as i64 - demand::demand(table, t) as i64).collect();
+                    let least = margins.iter().min();
+                    self.add_if(margins.iter().filter(|margin| Some(*margin) == least).count() > 1, "tie: two step instants with the least margin");
+                }
             }
             _ => {}
         }

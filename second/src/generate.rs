@@ -223,7 +223,10 @@ fn given_component(c: &mut Chance) -> Component {
 
 /// The component with a deadline small enough for the plain search over every capacity and every instant.
 fn searched(component: Component) -> Component {
-    let Ok(common) = component.common_period() else { return component };
+    let common = match component.common_period() {
+        Ok(common) => common,
+        Err(_) => return component,
+    };
     let deadline = (component.deadline as u64).min((4_000_000 / common).max(1)) as u32;
     let capacity = match component.capacity {
         Capacity::Stated(units) => Capacity::Stated(units.min(deadline)),

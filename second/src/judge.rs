@@ -32,7 +32,7 @@ pub fn least_margin(interface: &Interface, table: &Table, common: u64) -> Margin
         let asked = demand(table, t);
         if asked > before {
             let margin = supply(interface, t) as i64 - asked as i64;
-            if least.is_none_or(|(smallest, _)| margin < smallest) {
+            if least.map_or(true, |(smallest, _)| margin < smallest) {
                 least = Some((margin, t));
             }
         }
@@ -150,7 +150,7 @@ mod tests {
             let jobs = arrivals(&mut chance, &table, slots as u32);
             check_jobs(&table, &jobs, slots).unwrap();
             if let Some((instant, _)) = run(&table, &jobs, &row).miss {
-                assert!(first.is_some_and(|short| short <= instant), "{interface:?} {table:?} {jobs:?} {row:?}");
+                assert!(first.map_or(false, |short| short <= instant), "{interface:?} {table:?} {jobs:?} {row:?}");
             }
         }
     }

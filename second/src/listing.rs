@@ -17,7 +17,10 @@ pub fn listing(bytes: &[u8]) -> String {
 
 fn line(component: &Component) -> String {
     let own = component.number;
-    let (Ok((verdict, capacity)), Ok(margin)) = (verdict(component), margin(component)) else { return format!("{own} long") };
+    let (verdict, capacity, margin) = match (verdict(component), margin(component)) {
+        (Ok((verdict, capacity)), Ok(margin)) => (verdict, capacity, margin),
+        _ => return format!("{own} long"),
+    };
     let measured = margin.map_or("- -".to_string(), |(least, instant)| format!("{least} {instant}"));
     match verdict {
         Verdict::Accepted => format!("{own} accepted {capacity} {measured}"),

@@ -44,25 +44,25 @@ fn each_call(mut work: impl FnMut(calls::Call) -> Result<(), String>) -> Result<
     Ok(())
 }
 
+fn number(word: &str) -> Result<u64, String> {
+    word.parse().map_err(|_| format!("`{word}` is not a number\n{USAGE}"))
+}
+
 fn command(words: &[&str]) -> Result<(), String> {
     let mut out = BufWriter::new(std::io::stdout().lock());
     let said = |result: std::io::Result<()>| result.map_err(|error| error.to_string());
     match words {
         ["answer"] => each_call(|call| said(writeln!(out, "{}", calls::answer(call))))?,
         ["generate", seed, count, kind] => {
-            let numbers = (seed.parse::<u64>(), count.parse::<u64>());
-            let (Ok(seed), Ok(count)) = numbers else { return Err(USAGE.to_string()) };
-            let mut chance = chance::Chance::new(seed);
-            for _ in 0..count {
+            let mut chance = chance::Chance::new(number(seed)?);
+            for _ in 0..number(count)? {
                 let call = generate::call(&mut chance, kind).ok_or_else(|| format!("`{kind}` is no kind of call"))?;
                 said(writeln!(out, "{call}"))?;
             }
         }
         ["sheets", seed, count, folder] => {
-            let numbers = (seed.parse::<u64>(), count.parse::<u64>());
-            let (Ok(seed), Ok(count)) = numbers else { return Err(USAGE.to_string()) };
-            let mut chance = chance::Chance::new(seed);
-            for place in 1..=count {
+            let mut chance = chance::Chance::new(number(seed)?);
+            for place in 1..=number(count)? {
                 said(std::fs::write(format!("{folder}/{place}"), generate::given_sheet(&mut chance)))?;
             }
         }

@@ -33,12 +33,12 @@ pub fn check_jobs(table: &Table, jobs: &Jobs, slots: usize) -> Result<(), Refusa
     let mut last: Vec<Option<u64>> = vec![None; table.tasks.len()];
     for place in 0..count {
         let (number, release, work) = (jobs.tasks[place], jobs.releases[place] as u64, jobs.works[place]);
-        let Some(task) = table.tasks.get(number as usize) else { return Err(12) };
+        let task = table.tasks.get(number as usize).ok_or(12u16)?;
         if work < 1 || work > task.work || release >= slots as u64 {
             return Err(12);
         }
         let in_order = place == 0 || (jobs.releases[place - 1], jobs.tasks[place - 1]) <= (jobs.releases[place], number);
-        let apart = last[number as usize].is_none_or(|before| release >= before + task.period as u64);
+        let apart = last[number as usize].map_or(true, |before| release >= before + task.period as u64);
         if !in_order || !apart {
             return Err(12);
         }
@@ -84,7 +84,7 @@ pub fn ties(table: &Table, jobs: &Jobs, trace: &[u8]) -> (bool, bool) {
         let earliest = waiting().map(deadline).min();
         trace[slot] == 1 && waiting().filter(|&job| Some(deadline(job)) == earliest).count() > 1
     });
-    let late = walked.miss.is_some_and(|(instant, _)| (0..walked.left.len()).filter(|&job| deadline(job) == instant && walked.left[job] > 0).count() > 1);
+    let late = walked.miss.map_or(false, |(instant, _)| (0..walked.left.len()).filter(|&job| deadline(job) == instant && walked.left[job] > 0).count() > 1);
     (between, late)
 }
 

@@ -91,7 +91,7 @@ fn component(before: &[Read], kind: u16, fields: &[u8], at: usize) -> Result<Rea
         return Err(7);
     }
     let own = number(fields, 4);
-    if before.last().is_some_and(|last| own <= last.component.number) {
+    if before.last().map_or(false, |last| own <= last.component.number) {
         return Err(5);
     }
     let (capacity, deadline) = match kind {
@@ -105,7 +105,7 @@ fn component(before: &[Read], kind: u16, fields: &[u8], at: usize) -> Result<Rea
 
 /// A task record: 4, 6, 9.
 fn task(components: &mut [Read], fields: &[u8], end: usize) -> Result<(), Refusal> {
-    let Some(read) = components.last_mut() else { return Err(4) };
+    let read = components.last_mut().ok_or(4u16)?;
     if read.component.table.count == TASKS {
         return Err(6);
     }
