@@ -3,9 +3,12 @@ use crate::given;
 use crate::parse;
 use crate::print;
 use judge::answer::Judged;
+use judge::answer::Margined;
 use judge::answer::Smallest;
 use judge::answer::Verdict;
 use judge::capacity;
+use judge::margin;
+use judge::signed;
 use judge::verdict;
 
 fn put_verdict(out: &mut [u8], start: usize, verdict: Verdict) -> usize {
@@ -52,11 +55,39 @@ fn capacity_call(line: &[u8], start: usize, out: &mut [u8]) -> usize {
     )
 }
 
+fn put_margin(out: &mut [u8], start: usize, least: i32) -> usize {
+    if signed::is_negative(least) {
+        let at = print::put_text(out, start, b" -");
+        return print::put_digits(out, at, signed::magnitude(least) as u64);
+    }
+    print::put_long(out, start, signed::magnitude(least))
+}
+
+// Puts an answer whose first word, `ok`, stands already.
+fn put_margined(out: &mut [u8], answered: Margined) -> usize {
+    match answered {
+        Margined::Refused(refusal) => print::put_refusal(out, refusal),
+        Margined::Least(least, instant) => {
+            let at = put_margin(out, 2, least);
+            print::put_long(out, at, instant.0)
+        }
+        Margined::None => print::put_text(out, 2, b" none"),
+    }
+}
+
+fn margin_call(line: &[u8], start: usize, out: &mut [u8]) -> usize {
+    print::put_refusal(out, 0);
+    put_margined(out, margin::margin(given::read_component(line, start)))
+}
+
 // The answer to a call of the judge, or 0 where the line is none.
 pub fn judged(line: &[u8], out: &mut [u8]) -> usize {
     let at = parse::after_word(line, 0);
     if parse::is_word(line, b"verdict") {
         return verdict_call(line, at, out);
+    }
+    if parse::is_word(line, b"margin") {
+        return margin_call(line, at, out);
     }
     if parse::is_word(line, b"capacity") {
         return capacity_call(line, at, out);

@@ -28,6 +28,10 @@ fn answer_text(line: &[u8], out: &mut [u8]) -> usize {
     if at > 0 {
         return at;
     }
+    let at = sheets::writers(line, out);
+    if at > 0 {
+        return at;
+    }
     let at = sheets::sheets(line, out);
     if at > 0 {
         return at;

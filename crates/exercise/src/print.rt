@@ -20,12 +20,17 @@ pub fn put_text(out: &mut [u8], start: usize, text: &[u8]) -> usize {
     at
 }
 
-// Puts a space and a number.
-pub fn put_number(out: &mut [u8], start: usize, value: u64) -> usize {
+// Puts a number.
+pub fn put_digits(out: &mut [u8], start: usize, value: u64) -> usize {
     let mut digits = [0u8; 20];
     let count = io::decimal(value, &mut digits);
+    put_text(out, start, &digits[..count])
+}
+
+// Puts a space and a number.
+pub fn put_number(out: &mut [u8], start: usize, value: u64) -> usize {
     let at = put_byte(out, start, b' ');
-    put_text(out, at, &digits[..count])
+    put_digits(out, at, value)
 }
 
 // Puts a space and a number of 32 bits.
