@@ -16,6 +16,8 @@ const PART: u8 = 1;
 
 const READ: u8 = 2;
 
+const HOST: u8 = 3;
+
 const HOST_CHECK: u8 = 4;
 
 // Puts `ok`, or `refused` with its number and place.
@@ -45,7 +47,10 @@ fn put_reading(out: &mut [u8], answered: read::Reading) -> usize {
 }
 
 // What a call of the host returns; its reply goes into the lent buffer.
-fn replied(sheet: &[u8], reply: &mut [u8], at: u64) -> u32 {
+fn replied(sheet: &[u8], kind: u8, place: u64, reply: &mut [u8], at: u64) -> u32 {
+    if kind == HOST {
+        return jougsilver::jougsilver_judge(sheet, place as usize, reply, at as usize);
+    }
     jougsilver::jougsilver_check(sheet, reply, at as usize)
 }
 
@@ -62,7 +67,7 @@ fn host_reply(
     at: u64,
     out: &mut [u8],
 ) -> usize {
-    let returned = replied(sheet, reply, at);
+    let returned = replied(sheet, kind, place, reply, at);
     put_reply(out, returned, reply)
 }
 
@@ -199,6 +204,9 @@ pub fn sheets(line: &[u8], out: &mut [u8]) -> usize {
     }
     if parse::is_word(line, b"read") {
         return sheet_call(line, at, READ, out);
+    }
+    if parse::is_word(line, b"host") {
+        return sheet_call(line, at, HOST, out);
     }
     if parse::is_word(line, b"host_check") {
         return sheet_call(line, at, HOST_CHECK, out);
