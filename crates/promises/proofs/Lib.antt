@@ -3,6 +3,8 @@ pub mod Demand3
 pub mod DemandBound
 pub mod EarliestDeadline
 pub mod Figures
+pub mod Ground
+pub mod Judging
 pub mod NoMiss
 pub mod Serving
 pub mod Sums

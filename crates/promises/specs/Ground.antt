@@ -1,0 +1,71 @@
+-- What the judge stands on (01, "Numbers and components" and "Order"): the common period, demand and supply, the edits, and components that
+-- count as the same.
+use Prim.Native.Nat.{ℕ, _+_, _≤_, _<_, _∣_}
+use mathlib.Core.Bool.{true}
+use mathlib.Core.List.{List}
+use mathlib.Core.Path.{_≡_}
+use lib.ListN.{length, getD}
+use Rattle.budget.specs.declared.component.Component.{Component}
+use Rattle.budget.specs.declared.interface.Interface.{Interface}
+use Rattle.budget.specs.declared.task.Task.{Task}
+use Rattle.budget.specs.CommonPeriod.{commonPeriod}
+use Rattle.budget.specs.Component.{Same, commonPeriodAnswer, componentRefusal, withTasks}
+use Rattle.budget.specs.Demand.{demand, demandAnswer}
+use Rattle.budget.specs.Edit.{addingAnswer, addingRefusal, removingAnswer}
+use Rattle.budget.specs.Interface.{Π, validInterface}
+use Rattle.budget.specs.Limits.{most-tasks}
+use Rattle.budget.specs.Refusal as refusal
+use Rattle.budget.specs.Supply.{supply}
+use Rattle.budget.specs.Task.{T, noTask, tasksOf, validTasks}
+use Rattle.judge.specs.Capacity.{capacityAnswer}
+use Rattle.judge.specs.Judged.{verdictAnswer}
+use Rattle.judge.specs.Margin.{marginAnswer}
+
+-- the period p and every task's period divide m
+pub record CommonMultiple (p : ℕ) (ks : List Task) (m : ℕ) : Type 0 where
+  pub period : p ∣ m
+  pub tasks : (n : ℕ) → n < length ks → T (getD ks n noTask) ∣ m
+
+-- "L is the least common multiple of Π and all T (Π alone if there are no tasks)"
+pub record LeastCommonMultiple (p : ℕ) (ks : List Task) (l : ℕ) : Type 0 where
+  pub positive : 1 ≤ l
+  pub multiple : CommonMultiple p ks l
+  pub least : (m : ℕ) → 1 ≤ m → CommonMultiple p ks m → l ≤ m
+  pub divides : (m : ℕ) → CommonMultiple p ks m → l ∣ m
+
+abbrev pub CommonPeriodLeast : Type 0
+CommonPeriodLeast =
+    (c : Component) → componentRefusal c ≡ refusal.none → LeastCommonMultiple (c .period .0) (tasksOf (c .table)) (commonPeriodAnswer c .length .0)
+
+-- a stretch of L brings the demand at L
+abbrev pub DemandRepeats : Type 0
+DemandRepeats =
+    (ks : List Task) (i : Interface) → validTasks ks ≡ true → validInterface i ≡ true
+    → (t : ℕ) → demand ks (t + commonPeriod (Π i) ks) ≡ demand ks t + demand ks (commonPeriod (Π i) ks)
+
+abbrev pub DemandNeverFalls : Type 0
+DemandNeverFalls = (ks : List Task) → validTasks ks ≡ true → (t u : ℕ) → t ≤ u → demand ks t ≤ demand ks u
+
+abbrev pub SupplyNeverFalls : Type 0
+SupplyNeverFalls = (i : Interface) → validInterface i ≡ true → (t u : ℕ) → t ≤ u → supply i t ≤ supply i u
+
+-- "the new task comes last": adding a task and then removing the last gives the component back, with zero in the places from the count on
+abbrev pub AddThenRemove : Type 0
+AddThenRemove =
+    (c : Component) (k : Task) → length (c .table .tasks) ≡ most-tasks → addingRefusal c k ≡ refusal.none
+    → (removingAnswer (addingAnswer c k .component) (c .table .count) ≡ record { refusal = refusal.none; component = withTasks c (tasksOf (c .table)) })
+    × Same (withTasks c (tasksOf (c .table))) c
+
+-- what each operation on a component answers
+pub record AnsweredAlike (a b : Component) : Type 0 where
+  pub common-period : commonPeriodAnswer a ≡ commonPeriodAnswer b
+  pub demand : (t : ℕ) → demandAnswer (a .table) t ≡ demandAnswer (b .table) t
+  pub adding : (k : Task) → addingAnswer a k ≡ addingAnswer b k
+  pub removing : (at : ℕ) → removingAnswer a at ≡ removingAnswer b at
+  pub verdict : verdictAnswer a ≡ verdictAnswer b
+  pub margin : marginAnswer a ≡ marginAnswer b
+  pub capacity : capacityAnswer a ≡ capacityAnswer b
+
+-- "components that differ only there count as the same"
+abbrev pub SameAnswers : Type 0
+SameAnswers = (a b : Component) → Same a b → AnsweredAlike a b
