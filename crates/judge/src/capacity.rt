@@ -56,7 +56,7 @@ fn raised(period: Time, from: u32, deadline: Time, at: u32, demand: u32) -> u32
 
 // The smallest capacity from 0 to the deadline that fits at every instant up to `length`, or the deadline + 1. Supply grows with the capacity, so what
 // each step instant needs is taken one by one.
-pub fn least_capacity(table: Table, period: Time, deadline: Time, length: u32) -> u32
+pub(crate) fn least_capacity(table: Table, period: Time, deadline: Time, length: u32) -> u32
     requires { ⌜ Scannable table (interface (period .0) 0 (deadline .0)) length ⌝ }
     ensures { λ r. ⌜ r ≡ smallestCapacity (tasksOf table) (period .0) (deadline .0) length ⌝ }
 {

@@ -3,5 +3,5 @@ pub mod answer;
 pub mod capacity;
 pub mod margin;
 pub mod signed;
-pub mod steps;
+mod steps;
 pub mod verdict;

@@ -28,7 +28,7 @@ fn earlier(a: u32, b: u32) -> u32
 }
 
 // The columns of a table as a run begins: each task's first deadline is its next.
-pub fn columns_of(table: Table) -> Columns
+pub(crate) fn columns_of(table: Table) -> Columns
     ensures { λ r. ⌜ Columned (table .tasks) r ⌝ }
 {
     let tasks = table.tasks;
@@ -47,7 +47,7 @@ pub fn columns_of(table: Table) -> Columns
 }
 
 // The demand rises by the work of each task that is due at this instant; such a task's next deadline is a period later.
-pub fn pass(
+pub(crate) fn pass(
     period: &[u32; 64],
     work: &[u32; 64],
     due: &mut [u32; 64],

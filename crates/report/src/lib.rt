@@ -1,3 +1,3 @@
 // The listing's lines, as bytes: what a program prints for a sheet is decided here.
 pub mod lines;
-pub mod text;
+mod text;

@@ -114,7 +114,13 @@ fn released_before(releases: &[u32], end: usize) -> bool
 }
 
 // Whether the job lists keep the rules of the run, on a trace that ends at that instant.
-pub fn check_jobs(table: Table, tasks: &[u32], releases: &[u32], works: &[u32], end: usize) -> bool
+pub(crate) fn check_jobs(
+    table: Table,
+    tasks: &[u32],
+    releases: &[u32],
+    works: &[u32],
+    end: usize,
+) -> bool
     requires { ⌜ table .count ≤ most-tasks ⌝ }
     ensures { λ r. ⌜ r ≡ validJobs (tasksOf table) (now (tasks .entry)) (now (releases .entry)) (now (works .entry)) end ⌝ }
 {
@@ -134,7 +140,7 @@ pub fn check_jobs(table: Table, tasks: &[u32], releases: &[u32], works: &[u32], 
 }
 
 // The deadline of each job.
-pub fn deadlines(table: Table, tasks: &[u32], releases: &[u32], due: &mut [u32])
+pub(crate) fn deadlines(table: Table, tasks: &[u32], releases: &[u32], due: &mut [u32])
     requires { ⌜ (table .count ≤ most-tasks) × (length (now releases) ≡ length (now tasks)) × (length (now due) ≡ length (now tasks)) × ((k : ℕ) → k < length (now tasks) → (getD (now tasks) k 0 < table .count) × (getD (now releases) k 0 + D (getD (table .tasks) (getD (now tasks) k 0) noTask) < 2 ^ 32)) ⌝ }
     ensures { λ r. ⌜ ((js : List Job) → Tasks js (now (tasks .entry)) → Releases js (now (releases .entry)) → now (due .exit) ≡ map (deadline (tasksOf table)) js) ⌝ }
 {
@@ -150,7 +156,7 @@ pub fn deadlines(table: Table, tasks: &[u32], releases: &[u32], due: &mut [u32])
 }
 
 // The whole work of each job.
-pub fn whole_work(works: &[u32], left: &mut [u32])
+pub(crate) fn whole_work(works: &[u32], left: &mut [u32])
     requires { ⌜ length (now left) ≡ length (now works) ⌝ }
     ensures { λ r. ⌜ now (left .exit) ≡ now (works .entry) ⌝ }
 {

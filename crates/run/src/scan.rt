@@ -81,7 +81,7 @@ fn lower_late(due: u32, task: u32, left: u32, t: u32, lowest: u32) -> u32
 }
 
 // The lowest task number of the jobs late at instant t; NO_TASK where none is late.
-pub fn late_task(due: &[u32], tasks: &[u32], left: &[u32], t: u32) -> u32
+pub(crate) fn late_task(due: &[u32], tasks: &[u32], left: &[u32], t: u32) -> u32
     requires { ⌜ (length (now due) ≡ length (now left)) × (length (now tasks) ≡ length (now left)) ⌝ }
     ensures { λ r. ⌜ ((ks : List Task) (js : List Job) → Deadlines ks js (now (due .entry)) → Tasks js (now (tasks .entry)) → r ≡ lateTask ks t js (now (left .entry))) ⌝ }
 {
@@ -101,7 +101,7 @@ pub struct Given {
 }
 
 // Slot n with its trace byte: the work left after it, and what it gave.
-pub fn serve_slot(
+pub(crate) fn serve_slot(
     due: &[u32],
     tasks: &[u32],
     releases: &[u32],

@@ -74,7 +74,7 @@ fn ranged(number: u16, state: State, next: State) -> State
 }
 
 // The length of a component record.
-pub fn head_size(capacity: Capacity) -> usize
+pub(crate) fn head_size(capacity: Capacity) -> usize
     ensures { λ r. ⌜ r ≡ headSize capacity ⌝ }
 {
     match capacity {
@@ -93,7 +93,7 @@ fn units_of(capacity: Capacity) -> Units
 }
 
 // The refusal of a component record's numbers; a capacity that is asked is judged as 0.
-pub fn check_head(head: Head) -> u16
+pub(crate) fn check_head(head: Head) -> u16
     ensures { λ r. ⌜ r ≡ headRefusal head ⌝ }
 {
     let period = head.period;
@@ -252,7 +252,7 @@ fn mark(wanted: usize, state: State, next: State, span: Span) -> Span
 }
 
 // The one walk over a sheet's bytes: how it ends, and where the records of the component at one place lie.
-pub fn walk(sheet: &[u8], wanted: usize) -> Walked
+pub(crate) fn walk(sheet: &[u8], wanted: usize) -> Walked
     requires { ⌜ length (now sheet) ≤ 65_536 ⌝ }
     ensures { λ r. ⌜ Found (now (sheet .entry)) wanted r ⌝ }
 {
@@ -275,7 +275,7 @@ pub fn walk(sheet: &[u8], wanted: usize) -> Walked
     Walked { state, span }
 }
 
-pub fn checked_of(state: State) -> Checked
+pub(crate) fn checked_of(state: State) -> Checked
     ensures { λ r. ⌜ r ≡ checkedOf state ⌝ }
 {
     let number = state.refusal;

@@ -84,7 +84,7 @@ fn asked(rest: &[u8], size: u16) -> Record
 }
 
 // The task that a task record says.
-pub fn task_at(rest: &[u8]) -> Task
+pub(crate) fn task_at(rest: &[u8]) -> Task
     requires { ⌜ 16 ≤ length (now rest) ⌝ }
     ensures { λ r. ⌜ r ≡ taskAt (now (rest .entry)) ⌝ }
 {
@@ -141,7 +141,7 @@ fn of_kind(rest: &[u8], kind: u16, size: u16) -> Record
 }
 
 // The record that begins what is left of a sheet: "1 (under 4 bytes), 2, 3, 1 (cut)".
-pub fn record_of(rest: &[u8]) -> Record
+pub(crate) fn record_of(rest: &[u8]) -> Record
     ensures { λ r. ⌜ r ≡ recordOf (now (rest .entry)) ⌝ }
 {
     if rest.len() < 4 {

@@ -1,7 +1,7 @@
 // The budget sheet: records, reader, parts, writer.
 pub mod check;
-pub mod field;
-pub mod layout;
+mod field;
+mod layout;
 pub mod part;
 pub mod read;
 pub mod reply;
