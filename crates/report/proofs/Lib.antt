@@ -1,4 +1,5 @@
 pub mod Digits
 pub mod LineLaws
+pub mod OnlyLong
 pub mod Puts
 pub mod SignedText

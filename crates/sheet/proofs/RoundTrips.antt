@@ -17,6 +17,7 @@ use Rattle.sheet.specs.declared.check.Checked.{Checked}
 use Rattle.sheet.specs.declared.check.State.{State}
 use Rattle.sheet.specs.declared.read.Reading.{Reading}
 use Rattle.sheet.specs.Check.{most-bytes, start, walk, checkedOf, check}
+use Rattle.sheet.specs.Field.{Bytes}
 use Rattle.sheet.specs.Layout.{endBytes}
 use Rattle.sheet.specs.Reading.{reading}
 use Rattle.sheet.specs.RoundTrip.{componentsBytes, sheetBytes, Page, put, close, putAll, writeAll, readings, SameBytes, returned, Sound, Rising, ReadBack, SameComponents}
@@ -115,7 +116,7 @@ readings-are s (c ∷ cs) k h =
     (readings-are s cs (suc k) (λ j l. ap (λ (i : ℕ). reading s i .component) (suc-add k j ∙ sym (add-suc k j)) ∙ h (suc j) (omega arith)))
 
 -- what is known of a sheet that is not refused
-short-enough : (s : List ℕ) → check s .refusal ≡ 0 → length s ≤ most-bytes
+pub short-enough : (s : List ℕ) → check s .refusal ≡ 0 → length s ≤ most-bytes
 unfolding check
 short-enough s =
     cases (λ (x : Checked). x .refusal ≡ 0 → length s ≤ most-bytes) (ltb most-bytes (length s)) (λ p e. absurd (omega (arith, e))) (λ p e. ltb-false most-bytes (length s) p)
@@ -124,7 +125,12 @@ walk-unrefused : (st : State) → checkedOf st .refusal ≡ 0 → st .refusal �
 unfolding checkedOf
 walk-unrefused st = cases (λ (x : Checked). x .refusal ≡ 0 → st .refusal ≡ 0) (eqb (st .refusal) 0) (λ p e. eqb-true (st .refusal) 0 p) (λ p e. e)
 
-sheet-of : (s : List ℕ) (h : Shape s 0 0 0 0) → s ≡ sheetBytes (h .cs)
+pub accepted-sheet : (s : List ℕ) → Bytes s → check s .refusal ≡ 0 → Shape s 0 0 0 0
+accepted-sheet s bytes e =
+    accepted-shape s bytes
+    (walk-unrefused (walk (suc (length s)) s start) (sym (ap (λ (x : Checked). x .refusal) (check-walks s (short-enough s e))) ∙ e))
+
+pub sheet-of : (s : List ℕ) (h : Shape s 0 0 0 0) → s ≡ sheetBytes (h .cs)
 unfolding sheetBytes tasksBytes
 sheet-of s h =
     h .bytes
@@ -150,7 +156,4 @@ same-sheet s b short room h =
     (again b cs (h .rising) few (h .same) (subst (λ (x : List ℕ). length x ≤ most-bytes) e short) (subst (λ (x : List ℕ). length x ≤ length b) e room))
 
 pub same-bytes : SameBytes
-same-bytes s bytes e b room =
-    let short = short-enough s e in
-    let a : walk (suc (length s)) s start .refusal ≡ 0 = walk-unrefused (walk (suc (length s)) s start) (sym (ap (λ (x : Checked). x .refusal) (check-walks s short)) ∙ e) in
-    same-sheet s b short room (accepted-shape s bytes a)
+same-bytes s bytes e b room = same-sheet s b (short-enough s e) room (accepted-sheet s bytes e)

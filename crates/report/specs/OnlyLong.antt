@@ -1,0 +1,15 @@
+-- "or `long` for refusal 10": a component that stands in an accepted sheet has no other refusal, so a line says `long` for that one only.
+use Prim.Native.Nat.{ℕ, _<_}
+use mathlib.Core.List.{List}
+use mathlib.Core.Path.{_≡_}
+use Rattle.budget.specs.Refusal as refusal
+use Rattle.judge.specs.declared.answer.Judged.the-variants.{Refused}
+use Rattle.judge.specs.Judged.{verdictAnswer}
+use Rattle.sheet.specs.Check.{check}
+use Rattle.sheet.specs.Field.{Bytes}
+use Rattle.sheet.specs.Reading.{reading}
+
+abbrev pub OnlyLong : Type 0
+OnlyLong =
+    (s : List ℕ) → Bytes s → check s .refusal ≡ refusal.none → (k : ℕ) → k < check s .count
+    → (number : ℕ) → verdictAnswer (reading s k .component) ≡ Refused number → number ≡ refusal.long
