@@ -49,12 +49,16 @@ exercised() { # CALLS
     "$second" answer <"$1" >"$work/second" && program exercise <"$1" >"$work/exercise" && same "$work/second" "$work/exercise"
 }
 
-# The proved listing of sheets made afresh is the second program's.
+# The proved listing of a sheet is the second program's.
+listed_as() { # SHEET
+    "$second" list <"$1" >"$work/second" && program listing <"$1" >"$work/listing" && same "$work/second" "$work/listing"
+}
+# The same of sheets made afresh.
 listed() { # SEED COUNT
     rm -rf "$work/sheets" && mkdir "$work/sheets" && "$second" sheets "$1" "$2" "$work/sheets" || return
     local sheet
     for sheet in "$work"/sheets/*; do
-        "$second" list <"$sheet" >"$work/second" && program listing <"$sheet" >"$work/listing" && same "$work/second" "$work/listing" || return
+        listed_as "$sheet" || return
     done
 }
 

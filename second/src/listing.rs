@@ -37,7 +37,7 @@ mod tests {
     #[test]
     fn the_example_of_the_rules() {
         let sheet = text::bytes(
-            "component 1 stated 2 6 4\ntask 8 2 8\ncomponent 2 asked 6 4\ntask 8 2 7\ncomponent 3 stated 4 6 4\ntask 4 2 2\n\
+            "component 1 stated 6 2 4\ntask 8 2 8\ncomponent 2 asked 6 4\ntask 8 2 7\ncomponent 3 stated 6 4 4\ntask 4 2 2\n\
              component 4 asked 6 4\ntask 4 2 2\ncomponent 5 asked 6 4\nend 5\n",
         );
         let expected = "1 accepted 2 0 8\n2 accepted 3 1 7\n3 short 4 2 -2 2\n4 none\n5 accepted 0 - -\nend 5\n";
