@@ -131,7 +131,7 @@ module _ (cs : List Component) (rising : Rising 0 cs) (few : length cs ≤ 256) 
   unfolding partCheck chosen
   part-chosen k h = rw (sheet-accepted, lt-ltb k (length cs) h)
 
-  part-is : (k : ℕ) → k < length cs → partOf (sheetBytes cs) k ≡ componentBytes (getD cs k refused)
+  pub part-is : (k : ℕ) → k < length cs → partOf (sheetBytes cs) k ≡ componentBytes (getD cs k refused)
   unfolding partOf spanFor sheetBytes
   part-is k h =
       rw (part-chosen k h, span-is k)

@@ -1,5 +1,5 @@
 -- The two round trips. Written one after the other, components leave the bytes of their sheet; that sheet is read back, and an accepted sheet is one.
-use Prim.Native.Nat.{ℕ, suc, _+_, _≤_, _<_}
+use Prim.Native.Nat.{ℕ, zero, suc, _+_, _≤_, _<_}
 use mathlib.Core.Path.{_≡_, refl, sym, ap, ap₂, subst, _∙_}
 use mathlib.Core.List.{List, [], _∷_, _++_, map}
 use native.Mathlib.Nat.{add-zero, add-assoc, zero-add, suc-add, add-suc}
@@ -19,13 +19,14 @@ use Rattle.sheet.specs.declared.read.Reading.{Reading}
 use Rattle.sheet.specs.Check.{most-bytes, start, walk, checkedOf, check}
 use Rattle.sheet.specs.Field.{Bytes}
 use Rattle.sheet.specs.Layout.{endBytes}
+use Rattle.sheet.specs.Part.{partOf}
 use Rattle.sheet.specs.Reading.{reading}
-use Rattle.sheet.specs.RoundTrip.{componentsBytes, sheetBytes, Page, put, close, putAll, writeAll, readings, SameBytes, returned, Sound, Rising, ReadBack, SameComponents}
+use Rattle.sheet.specs.RoundTrip.{componentsBytes, sheetBytes, Page, put, close, putAll, writeAll, readings, SameBytes, PartsRead, returned, Sound, Rising, ReadBack, SameComponents}
 use Rattle.sheet.specs.Writing.{tasksBytes, componentBytes, stored, roomRefusal, writingRefusal, endRefusal, written, buffered}
 use Rattle.sheet.proofs.Accepts.{tasks-full}
 use Rattle.sheet.proofs.Cases.{cases}
 use Rattle.sheet.proofs.PartLaws.{check-walks}
-use Rattle.sheet.proofs.ReadsBack.{sheet-accepted, reading-back, sound-at}
+use Rattle.sheet.proofs.ReadsBack.{sheet-accepted, part-is, reading-back, sound-at}
 use Rattle.sheet.proofs.Shape.{Shape, accepted-shape}
 use Rattle.sheet.proofs.StoreLaws.{sets-append}
 
@@ -157,3 +158,25 @@ same-sheet s b short room h =
 
 pub same-bytes : SameBytes
 same-bytes s bytes e b room = same-sheet s b (short-enough s e) room (accepted-sheet s bytes e)
+
+-- ---- each part of an accepted sheet is the bytes of its component
+
+returned-at : (cs : List Component) → map returned cs ≡ cs → (k : ℕ) → k < length cs → returned (getD cs k refused) ≡ getD cs k refused
+returned-at [] e k h = absurd (omega arith)
+returned-at (c ∷ cs) e zero h = ap (λ (x : List Component). getD x 0 refused) e
+returned-at (c ∷ cs) e (suc k) h = returned-at cs (ap (drop 1) e) k (omega arith)
+
+part-read : (cs : List Component) → Rising 0 cs → length cs ≤ 256 → map returned cs ≡ cs → length (sheetBytes cs) ≤ most-bytes → (k : ℕ) → k < check (sheetBytes cs) .count
+    → partOf (sheetBytes cs) k ≡ componentBytes (reading (sheetBytes cs) k .component)
+part-read cs rising few same short k h =
+    let l : k < length cs = subst (λ (x : Checked). k < x .count) (sheet-accepted cs rising few short) h in
+    part-is cs rising few short k l
+    ∙ sym (ap (λ (x : Reading). componentBytes (x .component)) (reading-back cs rising few short k l) ∙ ap componentBytes (returned-at cs same k l))
+
+pub parts-read : PartsRead
+parts-read s bytes e k h =
+    let w = accepted-sheet s bytes e in
+    let few : length (w .cs) ≤ 256 = omega (arith, w .most) in
+    let q : s ≡ sheetBytes (w .cs) = sheet-of s w in
+    subst (λ (x : List ℕ). k < check x .count → partOf x k ≡ componentBytes (reading x k .component)) (sym q)
+    (part-read (w .cs) (w .rising) few (w .same) (subst (λ (x : List ℕ). length x ≤ most-bytes) q (short-enough s e)) k) h

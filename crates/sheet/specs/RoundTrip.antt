@@ -11,6 +11,7 @@ use Rattle.budget.specs.Task.{tasksOf}
 use Rattle.sheet.specs.Check.{check, most-bytes, most-components}
 use Rattle.sheet.specs.Field.{Bytes}
 use Rattle.sheet.specs.Layout.{endBytes}
+use Rattle.sheet.specs.Part.{partOf}
 use Rattle.sheet.specs.Reading.{reading}
 use Rattle.sheet.specs.Writing.{componentBytes, writingRefusal, endRefusal, written, buffered}
 
@@ -56,6 +57,11 @@ abbrev pub SameBytes : Type 0
 SameBytes =
     (s : List ℕ) → Bytes s → check s .refusal ≡ refusal.none → (buffer : List ℕ) → length s ≤ length buffer
     → writeAll buffer (readings s 0 (check s .count)) ≡ record { buffer = s ++ drop (length s) buffer; place = length s }
+
+-- "the part .. that holds one component's records": the bytes of the component that is read there
+abbrev pub PartsRead : Type 0
+PartsRead =
+    (s : List ℕ) → Bytes s → check s .refusal ≡ refusal.none → (k : ℕ) → k < check s .count → partOf s k ≡ componentBytes (reading s k .component)
 
 -- a valid component: no number of it is refused, its own number is one of 2 bytes, and its table has the places that its type gives it
 pub record Sound (c : Component) : Type 0 where
