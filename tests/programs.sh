@@ -18,24 +18,8 @@ check() {
     fi
 }
 
-# Installs Debian's package where a command is missing.
-need() { # COMMAND PACKAGE
-    command -v "$1" >/dev/null 2>&1 && return
-    apt-get install -y "$2" || { apt-get update && apt-get install -y "$2"; }
-}
-
-second=$PWD/target/second/release/second
-cargo_words=(--release --offline --manifest-path second/Cargo.toml --target-dir target/second)
-build_second() { need cargo cargo && cargo build "${cargo_words[@]}"; }
-test_second() { cargo test "${cargo_words[@]}"; }
-
-# The proved programs are x86-64 code. They run under the kit's loader and C library, and on another processor under the
-# kit's emulator.
-kit=$(dirname "$(dirname "$(rt doc)")")
-tools=$kit/on/$(uname -m)/toolchain
-emulator=()
-[ ! -x "$tools/bin/qemu-x86_64" ] || emulator=("$tools/bin/qemu-x86_64")
-program() { "${emulator[@]}" "$tools/lib/ld-linux-x86-64.so.2" --library-path "$tools/lib" "target/bin/$1"; }
+. scripts/program.sh
+test_second() { cargo test --release --offline --quiet --manifest-path second/Cargo.toml --target-dir target/second; }
 
 # The first lines in which two files differ.
 same() { # EXPECTED FOUND
@@ -62,17 +46,21 @@ listed() { # SEED COUNT
     done
 }
 
-# A C program that links the exported calls; it is x86-64 code too, and static where it needs the emulator.
-build_host() {
-    local compiler=cc static=()
-    if [ "$(uname -m)" != x86_64 ]; then
-        need x86_64-linux-gnu-gcc gcc-x86-64-linux-gnu || return
-        compiler=x86_64-linux-gnu-gcc static=(-static)
-    else
-        need cc gcc || return
-    fi
-    rt staticlib jougsilver && "$compiler" -O2 "${static[@]}" -o target/host tests/host.c target/staticlib/libjougsilver.a
-}
+# A C program that makes the calls of a file.
+build_host() { rt staticlib jougsilver && host_compiler -O2 -o target/host tests/host.c target/staticlib/libjougsilver.a; }
 hosted() { # CALLS
-    "$second" answer <"$1" >"$work/second" && "${emulator[@]}" target/host <"$1" >"$work/hosted" && same "$work/second" "$work/hosted"
+    "$second" answer <"$1" >"$work/second" && ${emulator:+"$emulator"} target/host <"$1" >"$work/hosted" && same "$work/second" "$work/hosted"
+}
+
+# A sample sheet: its bytes are its text's, and the README's command and the C host print what the second program's listing says.
+sampled_bytes() { ./sheet "examples/sheets/$1.txt" >"$work/bytes" && cmp "examples/sheets/$1.sheet" "$work/bytes"; }
+sampled_text() {
+    grep -v -e '^#' -e '^$' "examples/sheets/$1.txt" >"$work/text" && ./sheet -t "examples/sheets/$1.sheet" >"$work/back" && same "$work/text" "$work/back"
+}
+sampled_listing() {
+    "$second" list <"examples/sheets/$1.sheet" >"$work/second" && ./jougsilver "examples/sheets/$1.sheet" >"$work/listing" && same "$work/second" "$work/listing"
+}
+sampled_table() {
+    "$second" list <"examples/sheets/$1.sheet" | awk -f tests/panel.awk >"$work/second" && scripts/host "examples/sheets/$1.sheet" >"$work/table"
+    same "$work/second" "$work/table"
 }
