@@ -1,8 +1,9 @@
 /*
  * Jougsilver: the exact judge of partition budgets.
  *
- * Link libjougsilver.a (x86-64; it needs nothing but memcpy and memset of the C library) and include this file. Every call is a plain function of its arguments: it keeps no memory
- * and no state between calls, allocates nothing, reads and writes only what it is lent, and ends for every input there is.
+ * Link libjougsilver.a (x86-64; it needs nothing but memcpy and memset of the C library) and include this file. Every call
+ * is a plain function of its arguments: it keeps no memory and no state between calls, allocates nothing, reads and writes
+ * only what it is lent, and ends for every input there is.
  * Calls may run on several threads at once as long as no two of them are lent the same bytes to write.
  *
  * A sheet is at most 65,536 bytes of records, little-endian; the record layout is in README.md. A call that can't be taken

@@ -1,9 +1,9 @@
 -- A refused reading is answered as it is; else the component that was read is answered.
-use mathlib.Core.Path.{refl, sym, ap, _∙_}
-use borrow.Author.Tests.{ne-eqb}
-use Rattle.jougsilver.specs.Host.{hostRefusal}
+use mathlib.Core.Path.{sym, ap, _∙_}
+use lib.ListN.{length}
+use Rattle.jougsilver.specs.Host.{hostRefusal, hostReply}
+use Rattle.jougsilver.proofs.AnswerLaws.{reading-first, unwritten}
 use Rattle.sheet.specs.declared.read.Reading.{Reading}
-use Rattle.sheet.specs.Writing.{buffered}
 use borrow.Author.Needs.{needs}
 use Rattle.jougsilver.proofs.jougsilver_judge.Statement.{statement}
 use Rattle.jougsilver.proofs.jougsilver_judge.Tie as tie
@@ -15,10 +15,11 @@ cast-result : tie.Need-cast-result
 cast-result c = search needs
 
 returns : tie.Need-returns
-unfolding hostRefusal buffered
 returns c =
-    let e = ap (λ (x : Reading). x .refusal) (c .before .read-component .ensures) in
-    rw (← e, ne-eqb _ _ (c .if1 .taken), ne-eqb _ _ (c .if1 .taken)) (refl, refl)
+    let a = c .before .before .before .before .args in
+    let r = reading-first (a .sheet .now) (a .place) (length (a .reply .now)) (a .at) (c .before .read-component .result .refusal)
+    (ap (λ (x : Reading). x .refusal) (c .before .read-component .ensures)) (c .if1 .taken) in
+    (r, unwritten (c .before .read-component .result .refusal) (hostRefusal (a .sheet .now) (a .place) (length (a .reply .now)) (a .at)) (a .reply .now) (a .at) (hostReply (a .sheet .now) (a .place)) r (c .if1 .taken))
 
 answer-requires : tie.Need-answer-requires
 answer-requires c κs = search needs

@@ -1,10 +1,10 @@
 -- The verdict's refusal is the component's own; else the writer is handed the reply on the judge's answers.
-use mathlib.Core.Path.{refl, sym, ap, ap₂, _∙_}
-use borrow.Author.Tests.{ne-eqb}
+use mathlib.Core.Path.{sym, ap, ap₂, _∙_}
+use lib.ListN.{length}
 use Rattle.jougsilver.specs.Answer.{refusalOf, replyOf, replyOn, answerRefusal}
-use Rattle.jougsilver.proofs.AnswerLaws.{refused-as}
+use Rattle.jougsilver.proofs.AnswerLaws.{refused-as, component-first, unwritten}
 use Rattle.sheet.specs.declared.write.Written.{Written}
-use Rattle.sheet.specs.Writing.{written, buffered}
+use Rattle.sheet.specs.Writing.{written}
 use borrow.Author.Needs.{needs}
 use Rattle.jougsilver.proofs.answer.answer.Statement.{statement}
 use Rattle.jougsilver.proofs.answer.answer.Tie as tie
@@ -16,10 +16,11 @@ refusal-of-requires : tie.Need-refusal-of-requires
 refusal-of-requires c κs = search needs
 
 returns : tie.Need-returns
-unfolding answerRefusal buffered
 returns c =
-    let e = c .before .refusal-of .ensures ∙ (ap refusalOf (c .before .before .verdict .ensures) ∙ refused-as (c .before .before .before .before .args .component)) in
-    rw (← e, ne-eqb _ _ (c .if1 .taken), ne-eqb _ _ (c .if1 .taken)) (refl, refl)
+    let a = c .before .before .before .before .args in
+    let r = component-first (a .component) (length (a .reply .now)) (a .at) (c .before .refusal-of .result)
+    (c .before .refusal-of .ensures ∙ (ap refusalOf (c .before .before .verdict .ensures) ∙ refused-as (a .component))) (c .if1 .taken) in
+    (r, unwritten (c .before .refusal-of .result) (answerRefusal (a .component) (length (a .reply .now)) (a .at)) (a .reply .now) (a .at) (replyOn (a .component)) r (c .if1 .taken))
 
 margin-requires : tie.Need-margin-requires
 margin-requires c κs = search needs

@@ -1,0 +1,26 @@
+-- Each arm is its clause of the definition.
+use borrow.Author.Needs.{needs}
+use Rattle.jougsilver.proofs.answer.margin_instant_of.Statement.{statement}
+use Rattle.jougsilver.proofs.answer.margin_instant_of.Tie as tie
+
+enum-told : tie.Need-enum-told
+enum-told c = search needs
+
+enum-known-margined : tie.Need-enum-known-margined
+enum-known-margined c = search needs
+
+enum-told-2 : tie.Need-enum-told-2
+enum-told-2 c = search needs
+
+returns : tie.Need-returns
+returns c = rw (c .enum-told .given .1)
+
+returns-2 : tie.Need-returns-2
+returns-2 c = rw (c .before .margined .given .1)
+
+returns-3 : tie.Need-returns-3
+returns-3 c = rw (c .enum-told2 .given .1)
+
+pub margin-instant-of-spec : {M : Type 1} → statement M
+margin-instant-of-spec =
+    tie.close (tie.spec enum-told enum-known-margined enum-told-2 returns returns-2 returns-3)
