@@ -5,6 +5,7 @@ mod calls;
 mod chance;
 mod coverage;
 mod demand;
+mod exhaust;
 mod generate;
 mod judge;
 mod listing;
@@ -25,6 +26,7 @@ second sheets SEED COUNT DIR      sheets, sound and damaged, into the files 1, 2
 second list                the listing of the sheet on standard input
 second text                the sheet on standard input as text, one line a record
 second bytes               such a text on standard input as a sheet
+second every traces|components|runs   every small call of a kind
 second rows                the rows of the benchmark, a line each
 second row PLACE KIND      the calls of a row (`walk`: the longest walk)
 second coverage            counts what the calls on standard input reach, and fails if something is not reached";
@@ -69,6 +71,17 @@ fn command(words: &[&str]) -> Result<(), String> {
         ["kinds"] => {
             for kind in generate::KINDS {
                 said(writeln!(out, "{kind}"))?;
+            }
+        }
+        ["every", kind] => {
+            let calls = match *kind {
+                "traces" => exhaust::traces(),
+                "components" => exhaust::components(),
+                "runs" => exhaust::runs(),
+                _ => return Err(USAGE.to_string()),
+            };
+            for call in calls {
+                said(writeln!(out, "{call}"))?;
             }
         }
         ["rows"] => {
