@@ -2,6 +2,7 @@
 use Prim.Native.Nat.{ℕ}
 use mathlib.Core.Bool.{cond}
 use mathlib.Core.List.{List}
+use mathlib.Core.Path.{_≡_}
 use lib.Dec.{eqb}
 use Rattle.budget.specs.declared.component.Component.{Component}
 use Rattle.budget.specs.Component.{componentRefusal}
@@ -50,3 +51,20 @@ replyOn c = replyBytes (replyOf (c .number) (verdictAnswer c) (marginAnswer c))
 -- "10, 11": the component's own refusal comes first, then that of the room
 unfoldable pub answerRefusal : Component → ℕ → ℕ → ℕ
 answerRefusal c room at = cond (eqb (componentRefusal c) refusal.none) (roomRefusal room at 24) (componentRefusal c)
+
+-- 'Unused fields are 0, for "none" all four': the reply on a component that is answered none
+abbrev pub noneReply : ℕ → Reply
+noneReply number =
+    record {
+      number = number;
+      code = 2;
+      capacity = record { 0 = 0 };
+      instant = record { 0 = 0 };
+      margin = 0;
+      stands = record { 0 = 0 };
+    }
+
+abbrev pub NoneIsZero : Type 0
+NoneIsZero =
+    (c : Component) → componentRefusal c ≡ refusal.none → codeOf (verdictIn (verdictAnswer c)) ≡ 2
+    → replyOf (c .number) (verdictAnswer c) (marginAnswer c) ≡ noneReply (c .number)
