@@ -28,7 +28,7 @@ fn remove_task(line: &[u8], start: usize, out: &mut [u8]) -> usize {
 }
 
 // The answer to a call of an edit, or 0 where the line is none.
-pub fn edits(line: &[u8], out: &mut [u8]) -> usize {
+pub(crate) fn edits(line: &[u8], out: &mut [u8]) -> usize {
     let at = parse::after_word(line, 0);
     if parse::is_word(line, b"add_task") {
         return add_task(line, at, out);

@@ -9,7 +9,7 @@ use budget::quantity::Units;
 use budget::task::Table;
 use budget::task::Task;
 
-pub fn read_task(line: &[u8], start: usize) -> Task {
+pub(crate) fn read_task(line: &[u8], start: usize) -> Task {
     let period = parse::read_long(line, start);
     let work = parse::read_long(line, period.at);
     let deadline = parse::read_long(line, work.at);
@@ -20,7 +20,7 @@ pub fn read_task(line: &[u8], start: usize) -> Task {
     }
 }
 
-pub fn read_interface(line: &[u8], start: usize) -> Interface {
+pub(crate) fn read_interface(line: &[u8], start: usize) -> Interface {
     let period = parse::read_long(line, start);
     let capacity = parse::read_long(line, period.at);
     let deadline = parse::read_long(line, capacity.at);
@@ -45,7 +45,7 @@ fn task_of(line: &[u8], first: usize, place: usize) -> Task {
 }
 
 // A table; its places from the count on hold what is no task.
-pub fn read_table(line: &[u8], start: usize) -> Table {
+pub(crate) fn read_table(line: &[u8], start: usize) -> Table {
     let count = parse::read_number(line, start);
     let given = tasks_given(count.value);
     let mut tasks = [Task {
@@ -67,7 +67,7 @@ pub fn read_table(line: &[u8], start: usize) -> Table {
 }
 
 // The place after a table.
-pub fn after_table(line: &[u8], start: usize) -> usize {
+pub(crate) fn after_table(line: &[u8], start: usize) -> usize {
     let count = parse::read_number(line, start);
     parse::after_words(line, count.at, 3 * (tasks_given(count.value) % 65))
 }
@@ -102,7 +102,7 @@ fn number_of(line: &[u8], start: usize) -> u16 {
     (number.value % 65536) as u16
 }
 
-pub fn read_component(line: &[u8], start: usize) -> Component {
+pub(crate) fn read_component(line: &[u8], start: usize) -> Component {
     let period = parse::read_long(line, period_place(line, start));
     let deadline = parse::read_long(line, period.at);
     Component {
@@ -115,6 +115,6 @@ pub fn read_component(line: &[u8], start: usize) -> Component {
 }
 
 // The place after a component.
-pub fn after_component(line: &[u8], start: usize) -> usize {
+pub(crate) fn after_component(line: &[u8], start: usize) -> usize {
     after_table(line, parse::after_words(line, period_place(line, start), 2))
 }

@@ -81,7 +81,7 @@ fn margin_call(line: &[u8], start: usize, out: &mut [u8]) -> usize {
 }
 
 // The answer to a call of the judge, or 0 where the line is none.
-pub fn judged(line: &[u8], out: &mut [u8]) -> usize {
+pub(crate) fn judged(line: &[u8], out: &mut [u8]) -> usize {
     let at = parse::after_word(line, 0);
     if parse::is_word(line, b"verdict") {
         return verdict_call(line, at, out);

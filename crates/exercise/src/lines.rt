@@ -138,7 +138,7 @@ fn turn(row: &mut [u8], held: usize) -> usize {
 }
 
 // A proved loop has to end, and nothing says that a file does: the turns are counted down from a number that none uses up.
-pub fn answer_all() {
+pub(crate) fn answer_all() {
     let mut row = [0u8; 262144];
     let mut held: usize = 0;
     let mut turns = u64::MAX;

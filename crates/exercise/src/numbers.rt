@@ -80,7 +80,7 @@ fn supplied(line: &[u8], start: usize, out: &mut [u8]) -> usize {
 }
 
 // The answer to a call of a check, or 0 where the line is none.
-pub fn checks(line: &[u8], out: &mut [u8]) -> usize {
+pub(crate) fn checks(line: &[u8], out: &mut [u8]) -> usize {
     let at = parse::after_word(line, 0);
     if parse::is_word(line, b"check_task") {
         return check_task(line, at, out);
@@ -101,7 +101,7 @@ pub fn checks(line: &[u8], out: &mut [u8]) -> usize {
 }
 
 // The answer to a call that gives an amount or a component, or 0 where the line is none.
-pub fn amounts(line: &[u8], out: &mut [u8]) -> usize {
+pub(crate) fn amounts(line: &[u8], out: &mut [u8]) -> usize {
     let at = parse::after_word(line, 0);
     if parse::is_word(line, b"common_divisor") {
         return common_divisor(line, at, out);

@@ -31,7 +31,7 @@ fn wide(byte: u8) -> u64 {
 }
 
 // The decimal number that begins at a place; its digits have the codes 48 to 57, of which the last four bits are the digit.
-pub fn read_number(line: &[u8], start: usize) -> Number {
+pub(crate) fn read_number(line: &[u8], start: usize) -> Number {
     let mut at = start;
     let mut value: u64 = 0;
     while at < line.len() {
@@ -52,7 +52,7 @@ pub fn read_number(line: &[u8], start: usize) -> Number {
 }
 
 // The number that begins at a place, or the largest of 32 bits where it is larger.
-pub fn read_long(line: &[u8], start: usize) -> Long {
+pub(crate) fn read_long(line: &[u8], start: usize) -> Long {
     let read = read_number(line, start);
     let value = read.value;
     if value > 4294967295 {
@@ -68,7 +68,7 @@ pub fn read_long(line: &[u8], start: usize) -> Long {
 }
 
 // The place after a word and the space that follows it.
-pub fn after_word(line: &[u8], start: usize) -> usize {
+pub(crate) fn after_word(line: &[u8], start: usize) -> usize {
     let mut at = start;
     while at < line.len() {
         if line[at] == b' ' {
@@ -80,7 +80,7 @@ pub fn after_word(line: &[u8], start: usize) -> usize {
 }
 
 // The place after so many words.
-pub fn after_words(line: &[u8], start: usize, count: usize) -> usize {
+pub(crate) fn after_words(line: &[u8], start: usize, count: usize) -> usize {
     let mut at = start;
     let mut i = 0;
     while i < count {
@@ -91,7 +91,7 @@ pub fn after_words(line: &[u8], start: usize, count: usize) -> usize {
 }
 
 // Whether the line's first word is this one.
-pub fn is_word(line: &[u8], word: &[u8]) -> bool {
+pub(crate) fn is_word(line: &[u8], word: &[u8]) -> bool {
     let mut at = 0;
     while at < word.len() {
         if at >= line.len() {
@@ -128,7 +128,7 @@ fn hex_byte(high: u8, low: u8) -> u8 {
 }
 
 // Reads the row of bytes that begins at a place; `-` has none, and what does not fit is left out.
-pub fn read_row(line: &[u8], start: usize, row: &mut [u8]) -> Row {
+pub(crate) fn read_row(line: &[u8], start: usize, row: &mut [u8]) -> Row {
     let mut at = start;
     let mut filled: usize = 0;
     while filled < row.len() {
@@ -162,7 +162,7 @@ pub fn read_row(line: &[u8], start: usize, row: &mut [u8]) -> Row {
 }
 
 // Reads the numbers that stand after their count; what does not fit is left out.
-pub fn read_list(line: &[u8], start: usize, list: &mut [u32]) -> Row {
+pub(crate) fn read_list(line: &[u8], start: usize, list: &mut [u32]) -> Row {
     let count = read_number(line, start);
     let given = count.value as usize;
     let mut at = count.at;

@@ -1,7 +1,7 @@
 // An answer is put into a lent row from a place on; what does not fit is left out.
 
 // Puts a byte and answers the next place.
-pub fn put_byte(out: &mut [u8], at: usize, byte: u8) -> usize {
+pub(crate) fn put_byte(out: &mut [u8], at: usize, byte: u8) -> usize {
     if at < out.len() {
         out[at] = byte;
         return at + 1;
@@ -10,7 +10,7 @@ pub fn put_byte(out: &mut [u8], at: usize, byte: u8) -> usize {
 }
 
 // Puts a text and answers the next place.
-pub fn put_text(out: &mut [u8], start: usize, text: &[u8]) -> usize {
+pub(crate) fn put_text(out: &mut [u8], start: usize, text: &[u8]) -> usize {
     let mut at = start;
     let mut i = 0;
     while i < text.len() {
@@ -21,25 +21,25 @@ pub fn put_text(out: &mut [u8], start: usize, text: &[u8]) -> usize {
 }
 
 // Puts a number.
-pub fn put_digits(out: &mut [u8], start: usize, value: u64) -> usize {
+pub(crate) fn put_digits(out: &mut [u8], start: usize, value: u64) -> usize {
     let mut digits = [0u8; 20];
     let count = io::decimal(value, &mut digits);
     put_text(out, start, &digits[..count])
 }
 
 // Puts a space and a number.
-pub fn put_number(out: &mut [u8], start: usize, value: u64) -> usize {
+pub(crate) fn put_number(out: &mut [u8], start: usize, value: u64) -> usize {
     let at = put_byte(out, start, b' ');
     put_digits(out, at, value)
 }
 
 // Puts a space and a number of 32 bits.
-pub fn put_long(out: &mut [u8], start: usize, value: u32) -> usize {
+pub(crate) fn put_long(out: &mut [u8], start: usize, value: u32) -> usize {
     put_number(out, start, value as u64)
 }
 
 // Puts `ok`, or `refused` and its number.
-pub fn put_refusal(out: &mut [u8], refusal: u16) -> usize {
+pub(crate) fn put_refusal(out: &mut [u8], refusal: u16) -> usize {
     if refusal == 0 {
         return put_text(out, 0, b"ok");
     }
@@ -56,7 +56,7 @@ fn hex_digit(value: u8) -> u8 {
 }
 
 // Puts a space and a row of bytes in hex, or `-` for none.
-pub fn put_row(out: &mut [u8], start: usize, row: &[u8]) -> usize {
+pub(crate) fn put_row(out: &mut [u8], start: usize, row: &[u8]) -> usize {
     let mut at = put_byte(out, start, b' ');
     if row.len() == 0 {
         return put_byte(out, at, b'-');
@@ -72,7 +72,7 @@ pub fn put_row(out: &mut [u8], start: usize, row: &[u8]) -> usize {
 }
 
 // Puts the count of a list and its numbers.
-pub fn put_list(out: &mut [u8], start: usize, list: &[u32]) -> usize {
+pub(crate) fn put_list(out: &mut [u8], start: usize, list: &[u32]) -> usize {
     let mut at = put_number(out, start, list.len() as u64);
     let mut i = 0;
     while i < list.len() {

@@ -182,7 +182,7 @@ fn end_call(line: &[u8], start: usize, out: &mut [u8]) -> usize {
 }
 
 // The answer to a call of a writer, or 0 where the line is none.
-pub fn writers(line: &[u8], out: &mut [u8]) -> usize {
+pub(crate) fn writers(line: &[u8], out: &mut [u8]) -> usize {
     let at = parse::after_word(line, 0);
     if parse::is_word(line, b"write") {
         return write_call(line, at, out);
@@ -194,7 +194,7 @@ pub fn writers(line: &[u8], out: &mut [u8]) -> usize {
 }
 
 // The answer to a call that begins with a sheet, or 0 where the line is none.
-pub fn sheets(line: &[u8], out: &mut [u8]) -> usize {
+pub(crate) fn sheets(line: &[u8], out: &mut [u8]) -> usize {
     let at = parse::after_word(line, 0);
     if parse::is_word(line, b"sheet") {
         return sheet_call(line, at, CHECK, out);

@@ -60,7 +60,7 @@ fn put_capacity(out: &mut [u8], start: usize, capacity: Capacity) -> usize {
 }
 
 // A component as it is given in a call, and whether the rest of its task places is zero.
-pub fn put_component(out: &mut [u8], start: usize, component: Component) -> usize {
+pub(crate) fn put_component(out: &mut [u8], start: usize, component: Component) -> usize {
     let capacity = component.capacity;
     let table = component.table;
     let at = print::put_number(out, start, component.number as u64);

@@ -136,7 +136,7 @@ fn walk_call(line: &[u8], start: usize, out: &mut [u8]) -> usize {
 }
 
 // The answer to a call on a trace, or 0 where the line is none.
-pub fn traces(line: &[u8], out: &mut [u8]) -> usize {
+pub(crate) fn traces(line: &[u8], out: &mut [u8]) -> usize {
     let at = parse::after_word(line, 0);
     if parse::is_word(line, b"legal") {
         return legal_call(line, at, out);
