@@ -1,9 +1,9 @@
-//! Every small call there is, as a check of the definitions by running: all traces, all components, and for each component the run
-//! that the third demand constructs.
+//! Every small call there is, as a check of the definitions by running: all traces, all components, for each component the run that
+//! the third demand constructs, and a small sheet damaged in every way.
 
 use crate::calls::{component_text, row_text, table_text};
 use crate::numbers::{Capacity, Component, Interface, Table, Task};
-use crate::trace;
+use crate::{sheet, text, trace};
 
 /// Every interface up to a period.
 fn interfaces(longest: u32) -> Vec<Interface> {
@@ -100,4 +100,40 @@ pub fn runs() -> Vec<String> {
         }
     }
     calls
+}
+
+/// A small sheet damaged in every way: cut at every byte, every value of every byte, every kind and length of its first record, every
+/// count up to 300 in its end record, bytes behind the end; and sheets with 64 and 65 tasks, with 256 and 257 components, of 65,536 and
+/// 65,537 bytes.
+pub fn sheets() -> Vec<String> {
+    let small = text::bytes("component 1 stated 6 2 4\ntask 8 2 8\ncomponent 2 asked 6 4\nend 2\n").expect("a sheet's text");
+    let mut all: Vec<Vec<u8>> = (0..=small.len()).map(|end| small[..end].to_vec()).collect();
+    let changed = |at: usize, value: &[u8]| {
+        let mut sheet = small.clone();
+        sheet[at..at + value.len()].copy_from_slice(value);
+        sheet
+    };
+    for at in 0..small.len() {
+        all.extend((0..=255u8).map(|byte| changed(at, &[byte])));
+    }
+    for value in 0..=u16::MAX {
+        all.push(changed(0, &value.to_le_bytes()));
+        all.push(changed(2, &value.to_le_bytes()));
+    }
+    all.extend((0..=300u16).map(|count| changed(small.len() - 2, &count.to_le_bytes())));
+    all.extend((1..=8).map(|more| [small.clone(), vec![0; more]].concat()));
+    let task = Task::new(8, 2, 8);
+    let with = |number: u16, count: usize| sheet::component_bytes(&Component { number, ..component(interfaces(1)[1], Capacity::Asked, &Table::new(vec![task; count])) });
+    for count in [64, 65] {
+        all.push([with(7, count), sheet::end_bytes(1)].concat());
+    }
+    for count in [256, 257] {
+        all.push([(0..count).flat_map(|number| with(number, 0)).collect(), sheet::end_bytes(count)].concat());
+    }
+    // 63 components with 64 tasks each, and one with the tasks that fill the sheet but for a byte or pass it
+    let full: Vec<u8> = (0..63).flat_map(|number| with(number, 64)).collect();
+    for length in [sheet::BYTES, sheet::BYTES + 1] {
+        all.push([full.clone(), vec![0; length - full.len()]].concat());
+    }
+    all.iter().map(|bytes| format!("sheet {}", row_text(bytes))).collect()
 }

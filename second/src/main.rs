@@ -26,7 +26,7 @@ second sheets SEED COUNT DIR      sheets, sound and damaged, into the files 1, 2
 second list                the listing of the sheet on standard input
 second text                the sheet on standard input as text, one line a record
 second bytes               such a text on standard input as a sheet
-second every traces|components|runs   every small call of a kind
+second every traces|components|runs|sheets   every small call of a kind
 second rows                the rows of the benchmark, a line each
 second row PLACE KIND      the calls of a row (`walk`: the longest walk)
 second coverage            counts what the calls on standard input reach, and fails if something is not reached";
@@ -78,6 +78,7 @@ fn command(words: &[&str]) -> Result<(), String> {
                 "traces" => exhaust::traces(),
                 "components" => exhaust::components(),
                 "runs" => exhaust::runs(),
+                "sheets" => exhaust::sheets(),
                 _ => return Err(USAGE.to_string()),
             };
             for call in calls {
