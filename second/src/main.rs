@@ -1,4 +1,4 @@
-//! The second program: the rules in plain Rust, written from the rules alone, for the proved program to be held against.
+//! The second program: the rules in plain Rust, written from the rules, for the proved program to be held against.
 
 mod bench;
 mod calls;
