@@ -6,8 +6,8 @@ use crate::shown;
 use budget::component::Component;
 use sheet::check;
 use sheet::part;
-use sheet::read;
-use sheet::write;
+use transfer::read;
+use transfer::write;
 
 // The kinds of call that begin with a sheet.
 const CHECK: u8 = 0;

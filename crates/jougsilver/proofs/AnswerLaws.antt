@@ -14,9 +14,9 @@ use Rattle.judge.specs.Capacity.{capacityOf}
 use Rattle.judge.specs.Judged.{judgedAt, verdictAnswer}
 use Rattle.jougsilver.specs.Answer.{refusalOf, answerRefusal}
 use Rattle.jougsilver.specs.Host.{hostRefusal}
-use Rattle.sheet.specs.Reading.{reading}
-use Rattle.sheet.specs.Writing.{stored, roomRefusal, buffered}
-use Rattle.sheet.proofs.Cases.{cases}
+use Rattle.transfer.specs.Reading.{reading}
+use Rattle.transfer.specs.Writing.{stored, roomRefusal, buffered}
+use Rattle.record.proofs.Cases.{cases}
 
 judged-taken : (c : Component) (k : Capacity) → refusalOf (judgedAt c k) ≡ 0
 unfolding judgedAt

@@ -15,9 +15,9 @@ use Rattle.judge.specs.declared.answer.Verdict.the-variants as Variant
 use Rattle.judge.specs.Judged.{codeOf, instantOf, verdictAnswer}
 use Rattle.judge.specs.Margin.{marginOf, marginInstantOf, marginAnswer}
 use Rattle.judge.specs.Signed.{signedBits}
-use Rattle.sheet.specs.declared.reply.Reply.{Reply}
-use Rattle.sheet.specs.Reply.{replyBytes}
-use Rattle.sheet.specs.Writing.{roomRefusal}
+use Rattle.transfer.specs.declared.reply.Reply.{Reply}
+use Rattle.transfer.specs.Reply.{replyBytes}
+use Rattle.transfer.specs.Writing.{roomRefusal}
 
 abbrev pub refusalOf : Judged → ℕ
 refusalOf (Refused n) = n

@@ -6,9 +6,9 @@ use lib.Dec.{eqb}
 use Rattle.budget.specs.Refusal as refusal
 use Rattle.jougsilver.specs.Answer.{replyOn, answerRefusal}
 use Rattle.sheet.specs.Check.{check}
-use Rattle.sheet.specs.Reading.{reading}
-use Rattle.sheet.specs.Reply.{checkedBytes}
-use Rattle.sheet.specs.Writing.{roomRefusal}
+use Rattle.transfer.specs.Reading.{reading}
+use Rattle.transfer.specs.Reply.{checkedBytes}
+use Rattle.transfer.specs.Writing.{roomRefusal}
 
 -- "Host call: sheet, 15, 10, 11": reading the component at a place is refused by the sheet's number or 15, judging it by 10, writing the reply by 11
 unfoldable pub hostRefusal : List ℕ → ℕ → ℕ → ℕ → ℕ

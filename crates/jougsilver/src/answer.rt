@@ -9,14 +9,14 @@ use judge::answer::Verdict;
 use judge::margin::margin;
 use judge::signed::twos_complement;
 use judge::verdict::verdict;
-use sheet::reply::Reply;
-use sheet::reply::write_reply;
+use transfer::reply::Reply;
+use transfer::reply::write_reply;
 ghost use mathlib.Core.Path.{_≡_};
 ghost use lib.ListN.{length};
 ghost use Rattle.jougsilver.specs.Answer.{refusalOf, capacityIn, verdictIn, replyOf, replyOn, answerRefusal};
 ghost use Rattle.judge.specs.Judged.{codeOf, instantOf};
 ghost use Rattle.judge.specs.Margin.{marginOf, marginInstantOf};
-ghost use Rattle.sheet.specs.Writing.{buffered};
+ghost use Rattle.transfer.specs.Writing.{buffered};
 
 fn refusal_of(judged: Judged) -> u16
     ensures { λ r. ⌜ r ≡ refusalOf judged ⌝ }

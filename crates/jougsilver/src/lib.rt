@@ -4,12 +4,12 @@ mod answer;
 use crate::answer::answer;
 use budget::refusal;
 use sheet::check::check_sheet;
-use sheet::read::read_component;
-use sheet::reply::write_checked;
+use transfer::read::read_component;
+use transfer::reply::write_checked;
 ghost use mathlib.Core.Path.{_≡_};
 ghost use lib.ListN.{length};
 ghost use Rattle.jougsilver.specs.Host.{hostReply, hostRefusal, checkReply, checkRefusal};
-ghost use Rattle.sheet.specs.Writing.{buffered};
+ghost use Rattle.transfer.specs.Writing.{buffered};
 
 // Judges the component at a place of a sheet and puts the reply into the host's buffer from a place on.
 #[no_mangle]

@@ -8,9 +8,9 @@ use lib.Seq.{sets}
 use borrow.Author.Tests.{lt-ltb, le-ltb, eq-eqb, ne-eqb}
 use Rattle.budget.specs.Refusal as refusal
 use Rattle.sheet.specs.declared.check.Checked.{Checked}
-use Rattle.sheet.specs.declared.read.Reading.{Reading}
+use Rattle.transfer.specs.declared.read.Reading.{Reading}
 use Rattle.sheet.specs.Check.{check}
-use Rattle.sheet.specs.Reading.{reading}
+use Rattle.transfer.specs.Reading.{reading}
 use Rattle.report.specs.Lines.{componentLine, endLine, lineAt, refusedLine}
 use Rattle.report.specs.Text.{Put}
 

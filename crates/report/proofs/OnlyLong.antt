@@ -21,14 +21,14 @@ use Rattle.judge.specs.declared.answer.Verdict.{Verdict}
 use Rattle.judge.specs.Capacity.{capacityOf}
 use Rattle.judge.specs.Judged.{judgedAt, verdictAnswer}
 use Rattle.sheet.specs.declared.check.Checked.{Checked}
-use Rattle.sheet.specs.declared.read.Reading.{Reading}
+use Rattle.transfer.specs.declared.read.Reading.{Reading}
 use Rattle.sheet.specs.Check.{check, most-bytes}
-use Rattle.sheet.specs.Reading.{reading}
-use Rattle.sheet.specs.RoundTrip.{Rising, returned, sheetBytes}
-use Rattle.sheet.proofs.Cases.{cases}
-use Rattle.sheet.proofs.ReadsBack.{reading-back, sheet-accepted, sound-at}
-use Rattle.sheet.proofs.RoundTrips.{accepted-sheet, sheet-of, short-enough}
-use Rattle.sheet.proofs.Shape.{Shape}
+use Rattle.transfer.specs.Reading.{reading}
+use Rattle.transfer.specs.RoundTrip.{Rising, returned, sheetBytes}
+use Rattle.record.proofs.Cases.{cases}
+use Rattle.transfer.proofs.ReadsBack.{reading-back, sheet-accepted, sound-at}
+use Rattle.transfer.proofs.RoundTrips.{accepted-sheet, sheet-of, short-enough}
+use Rattle.transfer.proofs.Shape.{Shape}
 use Rattle.report.specs.OnlyLong.{OnlyLong}
 
 same-at : (cs : List Component) → map returned cs ≡ cs → (k : ℕ) → k < length cs → returned (getD cs k refused) ≡ getD cs k refused

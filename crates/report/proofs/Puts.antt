@@ -5,7 +5,7 @@ use mathlib.Core.Path.{_≡_, refl, sym, ap, _∙_}
 use mathlib.Core.List.{List, [], _∷_, _++_}
 use lib.ListN.{length, set, length-append}
 use lib.Seq.{sets}
-use Rattle.sheet.proofs.StoreLaws.{sets-append}
+use Rattle.transfer.proofs.StoreLaws.{sets-append}
 use Rattle.report.specs.Text.{Put}
 
 -- one store more

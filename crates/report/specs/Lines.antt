@@ -15,7 +15,7 @@ use Rattle.budget.specs.Refusal as refusal
 use Rattle.judge.specs.Judged.{verdictAnswer}
 use Rattle.judge.specs.Margin.{marginAnswer}
 use Rattle.sheet.specs.Check.{check}
-use Rattle.sheet.specs.Reading.{reading}
+use Rattle.transfer.specs.Reading.{reading}
 use Rattle.report.specs.Text.{decimal, signedText, spaced}
 
 -- the fields behind a line's first, each behind a single space, and the newline

@@ -6,8 +6,8 @@ use Rattle.budget.specs.Refusal as refusal
 use Rattle.judge.specs.declared.answer.Judged.the-variants.{Refused}
 use Rattle.judge.specs.Judged.{verdictAnswer}
 use Rattle.sheet.specs.Check.{check}
-use Rattle.sheet.specs.Field.{Bytes}
-use Rattle.sheet.specs.Reading.{reading}
+use Rattle.record.specs.Field.{Bytes}
+use Rattle.transfer.specs.Reading.{reading}
 
 abbrev pub OnlyLong : Type 0
 OnlyLong =

@@ -13,7 +13,7 @@ use judge::answer::Verdict;
 use judge::margin::margin;
 use judge::verdict::verdict;
 use sheet::check::check_sheet;
-use sheet::read::read_component;
+use transfer::read::read_component;
 ghost use mathlib.Core.Path.{_≡_};
 ghost use Prim.Native.Nat.{_+_, _≤_};
 ghost use lib.ListN.{length};

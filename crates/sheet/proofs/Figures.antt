@@ -6,8 +6,8 @@ use Rattle.budget.specs.declared.component.Capacity.the-variants.{Stated, Asked
 use Rattle.budget.specs.Interface.{interfaceRefusal, validInterface}
 use Rattle.budget.specs.Task.{taskRefusal, validTask}
 use Rattle.sheet.specs.declared.check.Checked.{Checked}
-use Rattle.sheet.specs.Field.{encode, field}
-use Rattle.sheet.specs.Layout.{statedBytes, askedBytes, headBytes, taskBytes, endBytes, headSize, statedAt, askedAt, taskAt, ofSize, ofKind, recordOf}
+use Rattle.record.specs.Field.{encode, field}
+use Rattle.record.specs.Layout.{statedBytes, askedBytes, headBytes, taskBytes, endBytes, headSize, statedAt, askedAt, taskAt, ofSize, ofKind, recordOf}
 use Rattle.sheet.specs.Check.{start, refuse, ended, ranged, numberRefusal, earlier, headRefusal, afterHead, judgedHead, afterTask, judgedTask, judgedEnd, judged, step, walk, checkedOf, check}
 
 abbrev answer : ℕ → ℕ → ℕ → Checked

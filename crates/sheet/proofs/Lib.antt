@@ -1,14 +1,3 @@
 pub mod Figures
-pub mod Cases
-pub mod RecordLaws
 pub mod WalkLaws
-pub mod StoreLaws
-pub mod FieldLaws
-pub mod RoundRecord
 pub mod PartLaws
-pub mod Accepts
-pub mod ReadsBack
-pub mod Shape
-pub mod RoundTrips
-pub mod ReadLaws
-pub mod ReplyLaws

@@ -11,7 +11,7 @@ use Rattle.sheet.specs.declared.check.Span.{Span}
 use Rattle.sheet.specs.declared.check.Walked.{Walked}
 use Rattle.sheet.specs.Check.{most-bytes, start, walk, checkedOf, check}
 use Rattle.sheet.specs.Part.{noSpan, chosen, spanFor, partCheck, Found, Placed}
-use Rattle.sheet.proofs.Cases.{cases}
+use Rattle.record.proofs.Cases.{cases}
 
 pub check-walks : (s : List ℕ) → length s ≤ most-bytes → check s ≡ checkedOf (walk (suc (length s)) s start)
 unfolding check

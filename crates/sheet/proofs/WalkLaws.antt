@@ -12,13 +12,13 @@ use Rattle.budget.specs.declared.component.Capacity.{Capacity}
 use Rattle.budget.specs.declared.component.Capacity.the-variants.{Stated, Asked}
 use Rattle.sheet.specs.declared.check.Span.{Span}
 use Rattle.sheet.specs.declared.check.State.{State}
-use Rattle.sheet.specs.declared.layout.Record.{Record}
-use Rattle.sheet.specs.declared.layout.Record.the-variants.{ComponentRecord, TaskRecord, EndRecord, NoRecord}
-use Rattle.sheet.specs.Layout.{headSize, sizeOf, recordOf}
+use Rattle.record.specs.declared.layout.Record.{Record}
+use Rattle.record.specs.declared.layout.Record.the-variants.{ComponentRecord, TaskRecord, EndRecord, NoRecord}
+use Rattle.record.specs.Layout.{headSize, sizeOf, recordOf}
 use Rattle.sheet.specs.Check.{start, refuse, ended, ranged, numberRefusal, earlier, headRefusal, afterHead, judgedHead, afterTask, judgedTask, judgedEnd, judged, step, walk}
 use Rattle.sheet.specs.Part.{marked, noted, noSpan, spanOf, Found}
-use Rattle.sheet.proofs.Cases.{cases}
-use Rattle.sheet.proofs.RecordLaws.{size-within}
+use Rattle.record.proofs.Cases.{cases}
+use Rattle.record.proofs.RecordLaws.{size-within}
 
 -- a component record is not empty
 pub some-head : (c : Capacity) → 14 ≤ headSize c

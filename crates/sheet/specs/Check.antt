@@ -12,10 +12,10 @@ use Rattle.budget.specs.Refusal as refusal
 use Rattle.budget.specs.Task.{taskRefusal}
 use Rattle.sheet.specs.declared.check.Checked.{Checked}
 use Rattle.sheet.specs.declared.check.State.{State}
-use Rattle.sheet.specs.declared.layout.Head.{Head}
-use Rattle.sheet.specs.declared.layout.Record.{Record}
-use Rattle.sheet.specs.declared.layout.Record.the-variants.{ComponentRecord, TaskRecord, EndRecord, NoRecord}
-use Rattle.sheet.specs.Layout.{headSize, recordOf}
+use Rattle.record.specs.declared.layout.Head.{Head}
+use Rattle.record.specs.declared.layout.Record.{Record}
+use Rattle.record.specs.declared.layout.Record.the-variants.{ComponentRecord, TaskRecord, EndRecord, NoRecord}
+use Rattle.record.specs.Layout.{headSize, recordOf}
 
 -- "At most 65,536 bytes and 256 components"
 abbrev pub most-bytes : ℕ

@@ -1,7 +1,4 @@
 // Judging a sheet: one walk over its records, which also notes where one component's records lie.
-use crate::layout::Head;
-use crate::layout::Record;
-use crate::layout::record_of;
 use budget::component::Capacity;
 use budget::interface::Interface;
 use budget::interface::check_interface;
@@ -9,11 +6,14 @@ use budget::quantity::Units;
 use budget::refusal;
 use budget::task::Task;
 use budget::task::check_task;
+use record::layout::Head;
+use record::layout::Record;
+use record::layout::record_of;
 ghost use mathlib.Core.Path.{_≡_};
 ghost use Prim.Native.Nat.{_+_, _≤_, _<_};
 ghost use lib.ListN.{length};
 ghost use Rattle.budget.specs.Component.{unitsOf};
-ghost use Rattle.sheet.specs.Layout.{headSize, sizeOf};
+ghost use Rattle.record.specs.Layout.{headSize, sizeOf};
 ghost use Rattle.sheet.specs.Check.{refuse, ranged, numberRefusal, earlier, headRefusal, afterHead, afterTask, judgedHead, judgedTask, judgedEnd, judged, step, check, checkedOf};
 ghost use Rattle.sheet.specs.Part.{marked, Found};
 
@@ -74,7 +74,7 @@ fn ranged(number: u16, state: State, next: State) -> State
 }
 
 // The length of a component record.
-pub(crate) fn head_size(capacity: Capacity) -> usize
+pub fn head_size(capacity: Capacity) -> usize
     ensures { λ r. ⌜ r ≡ headSize capacity ⌝ }
 {
     match capacity {
@@ -93,7 +93,7 @@ fn units_of(capacity: Capacity) -> Units
 }
 
 // The refusal of a component record's numbers; a capacity that is asked is judged as 0.
-pub(crate) fn check_head(head: Head) -> u16
+pub fn check_head(head: Head) -> u16
     ensures { λ r. ⌜ r ≡ headRefusal head ⌝ }
 {
     let period = head.period;
@@ -252,7 +252,7 @@ fn mark(wanted: usize, state: State, next: State, span: Span) -> Span
 }
 
 // The one walk over a sheet's bytes: how it ends, and where the records of the component at one place lie.
-pub(crate) fn walk(sheet: &[u8], wanted: usize) -> Walked
+pub fn walk(sheet: &[u8], wanted: usize) -> Walked
     requires { ⌜ length (now sheet) ≤ 65_536 ⌝ }
     ensures { λ r. ⌜ Found (now (sheet .entry)) wanted r ⌝ }
 {
@@ -275,7 +275,7 @@ pub(crate) fn walk(sheet: &[u8], wanted: usize) -> Walked
     Walked { state, span }
 }
 
-pub(crate) fn checked_of(state: State) -> Checked
+pub fn checked_of(state: State) -> Checked
     ensures { λ r. ⌜ r ≡ checkedOf state ⌝ }
 {
     let number = state.refusal;

@@ -1,8 +1,3 @@
-// The budget sheet: records, reader, parts, writer.
+// The budget sheet: one walk over its records, which checks it and finds its parts.
 pub mod check;
-mod field;
-mod layout;
 pub mod part;
-pub mod read;
-pub mod reply;
-pub mod write;

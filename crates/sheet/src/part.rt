@@ -43,7 +43,7 @@ fn span_for(checked: Checked, span: Span) -> Span
 }
 
 // One walk over the sheet: its refusal, then 15 where no component stands at that place, and where the component lies.
-pub(crate) fn locate(sheet: &[u8], place: usize) -> Located
+pub fn locate(sheet: &[u8], place: usize) -> Located
     ensures { λ r. ⌜ Placed (now (sheet .entry)) place r ⌝ }
 {
     if MOST_BYTES < sheet.len() {

@@ -1,7 +1,7 @@
 -- What the sheet was answered is what the writer is handed.
 use mathlib.Core.Path.{ap}
-use Rattle.sheet.specs.declared.write.Written.{Written}
-use Rattle.sheet.specs.Writing.{written}
+use Rattle.transfer.specs.declared.write.Written.{Written}
+use Rattle.transfer.specs.Writing.{written}
 use borrow.Author.Needs.{needs}
 use Rattle.jougsilver.proofs.jougsilver_check.Statement.{statement}
 use Rattle.jougsilver.proofs.jougsilver_check.Tie as tie

@@ -3,7 +3,7 @@ use mathlib.Core.Path.{sym, ap, _∙_}
 use lib.ListN.{length}
 use Rattle.jougsilver.specs.Host.{hostRefusal, hostReply}
 use Rattle.jougsilver.proofs.AnswerLaws.{reading-first, unwritten}
-use Rattle.sheet.specs.declared.read.Reading.{Reading}
+use Rattle.transfer.specs.declared.read.Reading.{Reading}
 use borrow.Author.Needs.{needs}
 use Rattle.jougsilver.proofs.jougsilver_judge.Statement.{statement}
 use Rattle.jougsilver.proofs.jougsilver_judge.Tie as tie

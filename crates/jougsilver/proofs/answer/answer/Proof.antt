@@ -3,8 +3,8 @@ use mathlib.Core.Path.{sym, ap, ap₂, _∙_}
 use lib.ListN.{length}
 use Rattle.jougsilver.specs.Answer.{refusalOf, replyOf, replyOn, answerRefusal}
 use Rattle.jougsilver.proofs.AnswerLaws.{refused-as, component-first, unwritten}
-use Rattle.sheet.specs.declared.write.Written.{Written}
-use Rattle.sheet.specs.Writing.{written}
+use Rattle.transfer.specs.declared.write.Written.{Written}
+use Rattle.transfer.specs.Writing.{written}
 use borrow.Author.Needs.{needs}
 use Rattle.jougsilver.proofs.answer.answer.Statement.{statement}
 use Rattle.jougsilver.proofs.answer.answer.Tie as tie

@@ -1,5 +1,5 @@
 -- Each case is the definition at that case.
-use Rattle.sheet.specs.Layout.{headSize}
+use Rattle.record.specs.Layout.{headSize}
 use borrow.Author.Needs.{needs}
 use Rattle.sheet.proofs.check.head_size.Statement.{statement}
 use Rattle.sheet.proofs.check.head_size.Tie as tie

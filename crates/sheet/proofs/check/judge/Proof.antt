@@ -1,5 +1,5 @@
 -- Each case hands on what its own judge ensures; the record fits since its size does.
-use Rattle.sheet.specs.Layout.{sizeOf}
+use Rattle.record.specs.Layout.{sizeOf}
 use Rattle.sheet.specs.Check.{refuse, judged}
 use borrow.Author.Needs.{needs}
 use Rattle.sheet.proofs.check.judge.Statement.{statement}

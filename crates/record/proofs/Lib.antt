@@ -1,0 +1,4 @@
+pub mod Cases
+pub mod RecordLaws
+pub mod FieldLaws
+pub mod RoundRecord

@@ -1,0 +1,3 @@
+// The records of a budget sheet: fields, and what each kind of record holds.
+pub mod field;
+pub mod layout;

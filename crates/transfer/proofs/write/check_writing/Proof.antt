@@ -1,0 +1,39 @@
+-- Refused as the ranges are, else as the room is: the size is the length of the component's bytes.
+use native.Mathlib.Omega.{arith}
+use lib.ListN.{length}
+use borrow.Author.Tests.{ne-eqb}
+use Rattle.transfer.proofs.StoreLaws.{component-length}
+use mathlib.Core.Path.{_≡_, sym, _∙_}
+use Rattle.budget.proofs.Places.{length-mapped}
+use Rattle.budget.proofs.Ranges.{in-range}
+use Rattle.transfer.specs.Writing.{writingRefusal}
+use borrow.Author.Needs.{needs}
+use Rattle.transfer.proofs.write.check_writing.Statement.{statement}
+use Rattle.transfer.proofs.write.check_writing.Tie as tie
+
+check-ranges-requires : tie.Need-check-ranges-requires
+check-ranges-requires c κs = search needs
+
+returns : tie.Need-returns
+unfolding writingRefusal
+returns c = rw (← c .before .check-ranges .ensures, ne-eqb _ _ (c .if1 .taken))
+
+component-size-requires : tie.Need-component-size-requires
+component-size-requires c κs = in-range (c .before .before .args .component) (sym (c .before .check-ranges .ensures) ∙ c .if1 .left) .count
+
+check-room-requires : tie.Need-check-room-requires
+check-room-requires c κs = search needs
+
+returns-2 : tie.Need-returns-2
+unfolding writingRefusal
+returns-2 c = let a = c .before .before .before .before .args in
+    let r = sym (c .before .before .before .check-ranges .ensures) ∙ c .before .before .if1 .left in
+    let full : length (a .component .table .tasks) ≡ 64 = search (needs, length-mapped) in
+    let few = in-range (a .component) r .count in
+    let size = c .before .component-size .ensures ∙ sym (component-length (a .component) (omega arith)) in
+    rw (r, ← size) (c .check-room .ensures)
+
+pub check-writing-spec : {M : Type 1} → statement M
+check-writing-spec =
+    tie.close
+    (tie.spec check-ranges-requires returns component-size-requires check-room-requires returns-2)

@@ -1,0 +1,30 @@
+-- A refused component leaves the buffer as it is; any other is stored.
+use Prim.Native.Nat.{ℕ}
+use borrow.Author.Tests.{ne-eqb}
+use mathlib.Core.Path.{refl, sym, ap, _∙_}
+use Rattle.transfer.specs.Writing.{written, buffered}
+use borrow.Author.Needs.{needs}
+use Rattle.transfer.proofs.write.write_component.Statement.{statement}
+use Rattle.transfer.proofs.write.write_component.Tie as tie
+
+check-writing-requires : tie.Need-check-writing-requires
+check-writing-requires c κs = search needs
+
+returns : tie.Need-returns
+unfolding written buffered
+returns c = rw (← c .before .check-writing .ensures, ne-eqb _ _ (c .if1 .taken)) (refl, refl)
+
+store-requires : tie.Need-store-requires
+store-requires c κs = search needs
+
+same-length : tie.Need-same-length
+same-length c = search needs
+
+returns-2 : tie.Need-returns-2
+unfolding written buffered
+returns-2 c = let z = sym (c .before .before .before .before .before .check-writing .ensures) ∙ c .before .before .before .before .if1 .left in
+    rw z (ap (λ (p : ℕ). record { refusal = 0; place = p }) (c .before .before .store .ensures .0), c .before .before .store .ensures .1)
+
+pub write-component-spec : {M : Type 1} → statement M
+write-component-spec =
+    tie.close (tie.spec check-writing-requires returns store-requires same-length returns-2)

@@ -1,0 +1,89 @@
+-- The loop's invariant: what is still to be stored, stored onto the buffer as it is now, gives the buffer as it must end.
+use borrow.Author.Needs.{needs}
+use native.Mathlib.Omega.{arith}
+use Prim.Native.Nat.{_-_, _≤_}
+use lib.ListN.{length, length-drop}
+use Rattle.transfer.proofs.StoreLaws.{Storing, storing-none, storing-more, storing-all}
+use Rattle.sheet.proofs.WalkLaws.{rest-is}
+use Rattle.budget.proofs.Places.{length-mapped}
+use Rattle.budget.specs.Limits.{most-tasks}
+use Rattle.budget.specs.Task.{tasksOf}
+use mathlib.Core.Path.{_≡_, sym}
+use native.Mathlib.Nat.{le-trans, le-of-eq}
+use Rattle.transfer.proofs.write.write_tasks.Statement.{statement}
+use Rattle.transfer.proofs.write.write_tasks.Tie as tie
+
+abbrev Inv-loop : tie.InvT-loop
+Inv-loop buffer₀ at count tasks place₀ i₀ buffer place i = Storing buffer₀ at count tasks buffer place i
+
+abbrev μ-loop : tie.MeasureT-loop
+μ-loop buffer₀ at count tasks place₀ i₀ buffer place i = count - i
+
+-- every place of the count stands in the table
+room : (s : tie.Start Inv-loop μ-loop) → s .args .table .count ≤ length (s .args .table .tasks)
+room s =
+    let full : length (s .args .table .tasks) ≡ most-tasks = search (needs, length-mapped) in
+    le-trans (s .pre .0) (le-of-eq (sym full))
+
+loop-holds : tie.Need-loop-holds Inv-loop μ-loop
+loop-holds c = let a = c .before .before .args in
+    storing-none (a .buffer .now) (a .at) (a .table .count) (a .table .tasks) (room (c .before .before))
+
+sub-put-task : tie.Need-sub-put-task Inv-loop μ-loop
+sub-put-task c = omega arith
+
+part-put-task-start : tie.Need-part-put-task-start Inv-loop μ-loop
+part-put-task-start c = omega arith
+
+part-put-task-end : tie.Need-part-put-task-end Inv-loop μ-loop
+part-put-task-end c = search needs
+
+mul-put-task : tie.Need-mul-put-task Inv-loop μ-loop
+mul-put-task c = omega arith
+
+array-copy-out-put-task : tie.Need-array-copy-out-put-task Inv-loop μ-loop
+array-copy-out-put-task c = omega arith
+
+put-task-requires : tie.Need-put-task-requires Inv-loop μ-loop
+put-task-requires c κs = let l = c .before .before .before .loop in rw (rest-is (l .buffer) (l .place), length-drop) (omega arith)
+
+add-place : tie.Need-add-place Inv-loop μ-loop
+add-place c = omega arith
+
+add-i : tie.Need-add-i Inv-loop μ-loop
+add-i c = omega arith
+
+loop-less : tie.Need-loop-less Inv-loop μ-loop
+loop-less c = omega arith
+
+loop-again : tie.Need-loop-again Inv-loop μ-loop
+loop-again c = let a = c .before .before .before .before .before .before .before .before .before .args in let l = c .before .before .before .before .before .before .loop in
+    storing-more (a .buffer .now) (a .at) (a .table .count) (a .table .tasks) (room (c .before .before .before .before .before .before .before .before .before)) (l .buffer) (l .place) (l .i) (l .inv) (c .before .before .put-task .last .0) (c .before .before .before .before .before .loop-test .taken) (omega arith) (c .before .before .put-task .ensures)
+
+same-length : tie.Need-same-length Inv-loop μ-loop
+same-length c = c .before .loop .inv .long
+
+returns : tie.Need-returns Inv-loop μ-loop
+unfolding tasksOf
+returns c = let a = c .before .before .before .before .args in let l = c .before .loop in
+    (omega arith, storing-all (a .buffer .now) (a .at) (a .table .count) (a .table .tasks) (room (c .before .before .before .before)) (l .buffer) (l .place) (l .i) (l .inv) (c .loop-test .left))
+
+pub write-tasks-spec : {M : Type 1} → statement M
+write-tasks-spec =
+    tie.close
+    (tie.spec
+    Inv-loop
+    μ-loop
+    loop-holds
+    sub-put-task
+    part-put-task-start
+    part-put-task-end
+    mul-put-task
+    array-copy-out-put-task
+    put-task-requires
+    add-place
+    add-i
+    loop-less
+    loop-again
+    same-length
+    returns)

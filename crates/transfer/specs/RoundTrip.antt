@@ -1,0 +1,94 @@
+-- The two round trips of demand 2, stated over what the operations answer: `reading` is what read_component answers, `put` and `close` are what write_component and write_end leave and answer.
+use Prim.Native.Nat.{ℕ, zero, suc, _+_, _≤_, _<_}
+use mathlib.Core.List.{List, [], _∷_, _++_}
+use mathlib.Core.Path.{_≡_}
+use lib.ListN.{length, getD, take, drop}
+use Rattle.budget.specs.declared.component.Component.{Component}
+use Rattle.budget.specs.Component.{Same, rangeRefusal, refused, withTasks}
+use Rattle.budget.specs.Limits.{most-tasks}
+use Rattle.budget.specs.Refusal as refusal
+use Rattle.budget.specs.Task.{tasksOf}
+use Rattle.sheet.specs.Check.{check, most-bytes, most-components}
+use Rattle.record.specs.Field.{Bytes}
+use Rattle.record.specs.Layout.{endBytes}
+use Rattle.sheet.specs.Part.{partOf}
+use Rattle.transfer.specs.Reading.{reading}
+use Rattle.transfer.specs.Writing.{componentBytes, writingRefusal, endRefusal, written, buffered}
+
+-- the bytes of components one behind the other, and of the sheet that the right end record closes
+unfoldable pub componentsBytes : List Component → List ℕ
+componentsBytes [] = []
+componentsBytes (c ∷ cs) = componentBytes c ++ componentsBytes cs
+
+unfoldable pub sheetBytes : List Component → List ℕ
+sheetBytes cs = componentsBytes cs ++ endBytes (length cs)
+
+-- a buffer that is being written, and the place answered last
+pub record Page : Type 0 where
+  pub buffer : List ℕ
+  pub place : ℕ
+
+-- one component written at the page's place, and the end record
+unfoldable pub put : Page → Component → Page
+put p c =
+    let n = writingRefusal (length (p .buffer)) (p .place) c in
+    record { buffer = buffered n (p .buffer) (p .place) (componentBytes c); place = written n (p .place) (componentBytes c) .place }
+
+unfoldable pub close : Page → ℕ → Page
+close p count =
+    let n = endRefusal (length (p .buffer)) (p .place) count in
+    record { buffer = buffered n (p .buffer) (p .place) (endBytes count); place = written n (p .place) (endBytes count) .place }
+
+unfoldable pub putAll : Page → List Component → Page
+putAll p [] = p
+putAll p (c ∷ cs) = putAll (put p c) cs
+
+-- components written one after the other from a buffer's beginning on, closed by the right end record
+unfoldable pub writeAll : List ℕ → List Component → Page
+writeAll buffer cs = close (putAll (record { buffer = buffer; place = 0 }) cs) (length cs)
+
+-- n components read from place k on
+unfoldable pub readings : List ℕ → ℕ → ℕ → List Component
+readings s k zero = []
+readings s k (suc n) = reading s k .component ∷ readings s (suc k) n
+
+-- "Accepted sheets read and written back are the same bytes"
+abbrev pub SameBytes : Type 0
+SameBytes =
+    (s : List ℕ) → Bytes s → check s .refusal ≡ refusal.none → (buffer : List ℕ) → length s ≤ length buffer
+    → writeAll buffer (readings s 0 (check s .count)) ≡ record { buffer = s ++ drop (length s) buffer; place = length s }
+
+-- "the part .. that holds one component's records": the bytes of the component that is read there
+abbrev pub PartsRead : Type 0
+PartsRead =
+    (s : List ℕ) → Bytes s → check s .refusal ≡ refusal.none → (k : ℕ) → k < check s .count → partOf s k ≡ componentBytes (reading s k .component)
+
+-- a valid component: no number of it is refused, its own number is one of 2 bytes, and its table has the places that its type gives it
+pub record Sound (c : Component) : Type 0 where
+  pub ranges : rangeRefusal c ≡ refusal.none
+  pub number : c .number < 65_536
+  pub places : length (c .table .tasks) ≡ most-tasks
+
+-- "valid components .. in rising number": each number is at least the lowest allowed
+abbrev pub Rising : ℕ → List Component → Type 0
+Rising lowest [] = Unit {0}
+Rising lowest (c ∷ cs) = (lowest ≤ c .number) × Sound c × Rising (c .number + 1) cs
+
+-- a component as it is returned: "zero in what is returned" from the count on
+abbrev pub returned : Component → Component
+returned c = withTasks c (tasksOf (c .table))
+
+-- a sheet that is accepted and read back as these components
+pub record ReadBack (s : List ℕ) (cs : List Component) : Type 0 where
+  pub accepted : check s ≡ record { refusal = refusal.none; place = 0; count = length cs }
+  pub read : (k : ℕ) → k < length cs
+      → reading s k ≡ record { refusal = refusal.none; place = 0; component = returned (getD cs k refused) }
+  pub same : (k : ℕ) → k < length cs → Same (reading s k .component) (getD cs k refused)
+
+-- "valid components written in rising number, closed by the right end record, where a sheet can hold them, are read back the same"
+abbrev pub SameComponents : Type 0
+SameComponents =
+    (cs : List Component) → Rising 0 cs → length cs ≤ most-components → length (sheetBytes cs) ≤ most-bytes
+    → (buffer : List ℕ) → length (sheetBytes cs) ≤ length buffer
+    → (writeAll buffer cs ≡ record { buffer = sheetBytes cs ++ drop (length (sheetBytes cs)) buffer; place = length (sheetBytes cs) })
+    × ReadBack (take (writeAll buffer cs .place) (writeAll buffer cs .buffer)) cs
