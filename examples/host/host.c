@@ -3,9 +3,13 @@
  * the instant where it stands.
  *
  *     host SHEET
+ *
+ * Ends with 0 where every component is accepted, 1 where one is not, 2 where the sheet is refused, 3 where something failed.
  */
+#include <errno.h>
 #include <stdint.h>
 #include <stdio.h>
+#include <string.h>
 
 #include "jougsilver.h"
 
@@ -64,25 +68,19 @@ static void print_component(const uint8_t *reply)
         printf("%9u  %-22s %8u %+8ld %8u\n", component, verdict, capacity, signed_at(reply + 16), stands);
 }
 
-int main(int argc, char **argv)
+enum { ACCEPTED = 0, NOT_ACCEPTED = 1, REFUSED = 2, FAILED = 3 };
+
+/* Says what failed and why, in the system's words. */
+static int failed(const char *what)
 {
-    FILE *file = argc == 2 ? fopen(argv[1], "rb") : NULL;
-    if (!file) {
-        fprintf(stderr, "usage: host SHEET\n");
-        return 2;
-    }
-    size_t length = fread(sheet, 1, sizeof sheet, file);
-    fclose(file);
+    fprintf(stderr, "host: %s: %s\n", what, strerror(errno));
+    return FAILED;
+}
 
-    uint8_t found[JOUGSILVER_CHECK_LENGTH];
-    if (jougsilver_check(sheet, length, found, sizeof found, 0) != JOUGSILVER_TAKEN)
-        return 2;
-    uint32_t refusal = number_at(found, 4), byte = number_at(found + 4, 4), count = number_at(found + 8, 4);
-    if (refusal) {
-        printf("refused %u at byte %u: %s\n", (unsigned)refusal, (unsigned)byte, meaning(refusal));
-        return 1;
-    }
-
+/* Prints the line of each component. */
+static int print_table(size_t length, uint32_t count)
+{
+    int status = ACCEPTED;
     printf("component  %-22s %8s %8s %8s\n", "verdict", "capacity", "margin", "at");
     for (uint32_t place = 0; place < count; place++) {
         uint8_t reply[JOUGSILVER_REPLY_LENGTH];
@@ -92,7 +90,43 @@ int main(int argc, char **argv)
         else if (answer == JOUGSILVER_TAKEN)
             print_component(reply);
         else
-            return 2;
+            return FAILED;
+        if (answer == JOUGSILVER_LONG || number_at(reply + 6, 2) != JOUGSILVER_ACCEPTED)
+            status = NOT_ACCEPTED;
     }
-    return 0;
+    return status;
+}
+
+static int print_sheet(size_t length)
+{
+    uint8_t found[JOUGSILVER_CHECK_LENGTH];
+    if (jougsilver_check(sheet, length, found, sizeof found, 0) != JOUGSILVER_TAKEN)
+        return FAILED;
+    uint32_t refusal = number_at(found, 4), byte = number_at(found + 4, 4), count = number_at(found + 8, 4);
+    if (!refusal)
+        return print_table(length, count);
+    printf("refused %u at byte %u: %s\n", (unsigned)refusal, (unsigned)byte, meaning(refusal));
+    return REFUSED;
+}
+
+int main(int argc, char **argv)
+{
+    if (argc != 2) {
+        fprintf(stderr, "usage: host SHEET\n");
+        return FAILED;
+    }
+    FILE *file = fopen(argv[1], "rb");
+    if (!file)
+        return failed(argv[1]);
+    size_t length = fread(sheet, 1, sizeof sheet, file);
+    if (ferror(file))
+        return failed(argv[1]);
+    fclose(file);
+
+    /* A table that was not written whole is no answer, and is known only once the output is closed. */
+    int status = print_sheet(length);
+    int written = !ferror(stdout);
+    if (fclose(stdout) != 0 || !written)
+        return failed("standard output");
+    return status;
 }
