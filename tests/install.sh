@@ -51,7 +51,8 @@ unproved() {
     ! PATH=$work/failing:$PATH make install PREFIX="$work/unproved" && [ ! -e "$work/unproved" ]
 }
 bad_prefix() {
-    ! make install PREFIX=relative && [ ! -e relative ] && ! make install PREFIX="$work/pre#fix" && [ ! -e "$work/pre#fix" ]
+    rm -rf target/relative
+    ! make install PREFIX=target/relative && [ ! -e target/relative ] && ! make install PREFIX="$work/pre#fix" && [ ! -e "$work/pre#fix" ]
 }
 uninstalled() { make uninstall PREFIX="$copy" && [ -z "$(find "$copy" ! -type d)" ] && [ ! -e "$copy/libexec/jougsilver" ]; }
 
@@ -131,9 +132,9 @@ not_whole() {
     rm -rf "$work/moved" && cp -a "$copy" "$work/moved" || return
     "$work/moved/bin/jougsilver" "$work/accepted.txt" || return
     rm "$work/moved/libexec/jougsilver/bin/listing"
-    "$work/moved/bin/jougsilver" "$work/accepted.txt" >"$work/found"
+    "$work/moved/bin/jougsilver" "$work/accepted.txt" >"$work/found" 2>"$work/complaint"
     status=$?
-    [ "$status" -eq 3 ] && [ ! -s "$work/found" ]
+    [ "$status" -eq 3 ] && [ ! -s "$work/found" ] && grep -q 'bin/listing is missing' "$work/complaint"
 }
 installed_picture() {
     ./jougsilver --picture examples/sheets/press.sheet 1 >"$work/expected" && installed_command jougsilver --picture "$root/examples/sheets/press.sheet" 1 >"$work/found" &&
