@@ -195,11 +195,16 @@ check "what rt has just built is what runs" meets 1 "$front/five.listing" '' ove
 rm "$front/repo/target/bin/listing"
 : >"$front/repo/target/stamp/listing"
 check "a program that was removed is built again" meets 1 "$front/five.listing" '' over_rt "[ -f target/stamp/listing ] || $builds"
+called_at_last() { # within 10 s
+    local tries=0
+    until [ -s "$front/calls" ] || [ $((tries += 1)) -gt 100 ]; do sleep 0.1; done
+    [ -s "$front/calls" ]
+}
 waits() {
     fresh_repo
     over_rt 'sleep 3' >"$front/first" 2>&1 &
     local first=$!
-    until [ -s "$front/calls" ]; do sleep 0.1; done
+    called_at_last || return
     meets 1 "$front/five.listing" '^jougsilver: another command is building in .*: waiting for it$' over_rt 'sleep 3'
     local met=$?
     wait "$first"
@@ -211,7 +216,7 @@ orphaned() {
     printf 'sleep 60\n' >"$front/does"
     PATH=$front/bin:$PATH setsid "$front/repo/jougsilver" "$samples/five.sheet" >/dev/null 2>&1 &
     local holder=$!
-    until [ -s "$front/calls" ]; do sleep 0.1; done
+    called_at_last || return
     kill -s KILL -- "-$holder"
     wait "$holder" 2>/dev/null
     meets 1 "$front/five.listing" '' over_rt "$unchanged"
