@@ -25,7 +25,10 @@ for signal in HUP INT TERM; do
     trap "clean; trap - $signal EXIT; kill -s $signal $$" $signal
 done
 trap : PIPE
-private_room() { room=$(mktemp -d -- "${TMPDIR:-/tmp}/jougsilver.XXXXXX" 2>/dev/null) || fail "no temporary folder can be made in ${TMPDIR:-/tmp}"; }
+private_room() {
+    room=$(mktemp -d -- "${TMPDIR:-/tmp}/jougsilver.XXXXXX" 2>/dev/null) || fail "no temporary folder can be made in ${TMPDIR:-/tmp}"
+    case $room in /*) ;; *) room=$PWD/$room ;; esac
+}
 
 # The end of what a tool said last, which is the system's word for what went wrong.
 reason() {

@@ -2,9 +2,10 @@
 # It gives two things, and an installed copy has a file of its own in this one's place that gives the same two:
 #   ready NAME...          brings programs up to date, proved as the sources stand now; else says on standard error why not, and fails
 #   program NAME [WORD...] runs one
-# The programs: listing and exercise (proved), panel (the C host over the proved archive), second (the second program).
-# What `ready` made ready is kept as a copy, named by its content, and `program` runs that copy: so what runs is what was checked, whoever
-# builds meanwhile. Without `ready` before it, `program` runs what stands under target/.
+# The programs: listing and exercise (proved), panel (the C host over the proved archive), second (the second program); `ready archive` is
+# for who links the exported calls.
+# What `ready` made ready is kept as a copy, named by its content, at ${kept[NAME]}, and `program` runs that copy: so what runs is what was
+# checked, whoever builds meanwhile. Without `ready` before it, `program` runs what stands under target/.
 root=$(cd -- "$(dirname -- "${BASH_SOURCE[0]}")/.." >/dev/null && pwd -P)
 declare -A kept=()
 second=$root/target/second/release/second
@@ -22,6 +23,7 @@ file_of() { # NAME
     case $1 in
     second) echo "$second" ;;
     panel) echo "$root/target/panel" ;;
+    archive) echo "$archive" ;;
     *) echo "$root/target/bin/$1" ;;
     esac
 }
@@ -44,6 +46,7 @@ ready() { # NAME...
         case $name in
         second) build_second ;;
         panel) build_panel ;;
+        archive) build_archive ;;
         *) prove_program "$name" ;;
         esac && keep "$name" || {
             made=1
