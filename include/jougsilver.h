@@ -1,8 +1,8 @@
 /*
  * Jougsilver: the exact judge of partition budgets. C99 or later, or C++.
  *
- * A sheet is at most 65,536 bytes of records. docs/RULES.md has the layout of its records byte by byte in section 10, the
- * refusal numbers in 12 and these calls in 14; jougsilver(1) has them in short.
+ * A sheet is at most 65,536 bytes of records. docs/RULES.md (PREFIX/share/doc/jougsilver/RULES.md where it is installed) has
+ * the layout of the records byte by byte in section 10, the refusal numbers in 12 and these calls in 14.
  *
  * Linking. The archive libjougsilver.a is x86-64 code that needs nothing but memcpy and memset of the C library, and can
  * stand in a shared library too. At the top of the repository `rt staticlib jougsilver` proves it and writes
@@ -20,12 +20,12 @@
  * host's own code and not proved.
  *
  * Stack and time, measured by tests/outside/worst.c (`make measure`) and not proved. On a thread whose stack was filled with
- * one byte beforehand, no call touched more than 7,975 bytes of it; by the compiled code the frames of the deepest chain of
+ * one byte beforehand no call touched more than 7,975 bytes of it; in the compiled code the frames along the deepest chain of
  * calls sum to 7,944, and no function calls itself. JOUGSILVER_STACK is about twice that. The longest call known is an asked
- * component of 64 tasks with a common period of 1,048,576 and a deadline at every instant, the last of 256 in a full
- * sheet: 140 to 290 ms of processor time in some 40 runs on a virtual machine (Intel Xeon, x86-64, 2.1 GHz) that was busy
- * with other work; stated instead of asked, 80 to 125 ms; to check such a sheet, 0.05 ms. Time grows with the common
- * period and the number of tasks, hardly with the sheet.
+ * component of 64 tasks with a common period of 1,048,576 and a deadline at every instant, whatever else the sheet holds: 140 to
+ * 290 ms of processor time in some 40 runs on a virtual machine (Intel Xeon, x86-64, 2.1 GHz) that was busy with other
+ * work; stated instead of asked, 80 to 125 ms. To check a full sheet of 256 components took 0.05 ms. Time grows with the
+ * common period and the number of tasks, hardly with the sheet.
  */
 #ifndef JOUGSILVER_H
 #define JOUGSILVER_H
