@@ -46,10 +46,35 @@ help_and_exit() {
     exit 0
 }
 
-# The words after the options: `file`, and `shown`, its name in messages. Without FILE, or where it is `-`, standard input is read.
+# The command line: `words` are those that are no options, in their order. The command's own function `option` is given an option and what
+# follows it, and leaves in `took` how many of them it took.
+parse() { # WORD...
+    words=()
+    while [ $# -gt 0 ]; do
+        case $1 in
+        -h | --help) help_and_exit ;;
+        --)
+            words+=("${@:2}")
+            return
+            ;;
+        -?*)
+            took=1
+            option "$@"
+            shift "$took"
+            ;;
+        *)
+            words+=("$1")
+            shift
+            ;;
+        esac
+    done
+}
+
+# What is read: `file`, and `shown`, its name in messages. Without FILE, or where it is `-`, that is standard input.
 named() { # [FILE]
     file=${1--}
     shown=$file
+    true 2>/dev/null 3>&1 || fail "standard output can't be written: it is closed"
     [ "$file" = - ] || return 0
     shown="standard input"
     [ $# -gt 0 ] || [ ! -t 0 ] || say "reading standard input; end it with Ctrl-D, or name a FILE ($name --help says more)"

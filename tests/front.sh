@@ -308,7 +308,7 @@ for place in 0 17 18 33 34 39; do
     check "./sheet --line $place" meets 0 "$front/line" '' "$top/sheet" --line "$place" range.txt
 done
 check "./sheet --line past the end" meets 3 - '^sheet: range.txt: no line has byte 41: the sheet has 40 bytes$' "$top/sheet" --line 41 range.txt
-check "./sheet --line needs a place" meets 3 - '^sheet: not a byte place: two' "$top/sheet" --line two range.txt
+check "./sheet --line needs a place" meets 3 - '^sheet: --line needs a byte place, not: two$' "$top/sheet" --line two range.txt
 { head -c 20 "$samples/five.sheet" && printf '\011' && tail -c +22 "$samples/five.sheet"; } >"$front/damaged.sheet"
 check "./sheet -t on a damaged sheet" meets 2 - '^sheet: damaged.sheet: byte 18: refused 2 (a record of unknown kind)$' "$top/sheet" -t damaged.sheet
 check "./sheet -t on nothing" meets 2 - '^sheet: empty.sheet: byte 0: refused 1 (' "$top/sheet" -t empty.sheet
