@@ -44,7 +44,7 @@ extern "C" {
 #define JOUGSILVER_VERSION_PATCH 0
 #define JOUGSILVER_VERSION "0.1.0"
 
-/* Bytes of stack that are enough for any call. */
+/* Bytes of stack that are enough for any call, as measured. */
 #define JOUGSILVER_STACK 16384
 
 /* The most bytes that a sheet may have. */
@@ -189,16 +189,16 @@ static inline const char *jougsilver_refusal_text(uint32_t refusal)
     case JOUGSILVER_TAKEN: return "taken";
     case JOUGSILVER_CUT: return "the sheet ends inside a record, or has no end record";
     case JOUGSILVER_KIND: return "a record of unknown kind";
-    case JOUGSILVER_LENGTH: return "a record whose length isn't its kind's";
+    case JOUGSILVER_LENGTH: return "a record whose length is not its kind's";
     case JOUGSILVER_NO_COMPONENT: return "a task before any component";
-    case JOUGSILVER_NUMBER: return "a component number that isn't above the one before";
+    case JOUGSILVER_NUMBER: return "a component number not above the one before";
     case JOUGSILVER_TASKS: return "more than 64 tasks in a component";
     case JOUGSILVER_COMPONENTS: return "more than 256 components";
     case JOUGSILVER_END: return "a wrong count in the end record, or bytes after it";
     case JOUGSILVER_RANGE: return "a number outside its range";
     case JOUGSILVER_LONG: return "a common period above 1,048,576, too long to be judged exactly";
     case JOUGSILVER_ROOM: return "too little room for the reply";
-    case JOUGSILVER_SHEET: return "a sheet of more than 65,536 bytes";
+    case JOUGSILVER_SHEET: return "more than 65,536 bytes";
     case JOUGSILVER_PLACE: return "no component at that place";
     default: return "a refusal that this version doesn't know";
     }

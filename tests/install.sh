@@ -145,13 +145,15 @@ installed_picture() {
 page_is_clean() { # PAGE
     groff -man -Tutf8 -ww -z "man/$1" >"$work/groff" 2>&1 && same /dev/null "$work/groff"
 }
-# Each refusal of a sheet stands in the manual as the header says it, beside its number, and so does each exit status.
-page_has_refusals() {
-    local number
-    printf '#include <jougsilver.h>\n#include <stdio.h>\nint main(void) { for (unsigned n = 1; n < 15; n++) if (n < 10 || n > 13) printf("%%u %%s\\n", n, jougsilver_refusal_text(n)); return 0; }\n' >"$work/texts.c"
-    host_compiler -I include -o "$work/texts" "$work/texts.c" && ${emulator:+"$emulator"} "$work/texts" >"$work/texts.txt" && [ "$(wc -l <"$work/texts.txt")" -eq 10 ] || return
+# Each refusal of a sheet, beside its number, is said in the same words by the header, the manual and the commands.
+refusals_agree() {
+    run_abroad ./helpers texts | awk '$1 > 0 && $1 < 10 || $1 == 14' >"$work/texts.txt" && [ "$(wc -l <"$work/texts.txt")" -eq 10 ] || return
     sed -n '/^\.SH REFUSALS/,/^\.SH NOT/p' man/jougsilver.1 | awk '/^\.IP/ { number = $2; getline; print number, $0 }' >"$work/page.txt"
-    same "$work/texts.txt" "$work/page.txt" || return
+    sed -n 's/^ *\([0-9]*\)) echo "\(.*\)" ;;$/\1 \2/p' scripts/command.sh >"$work/command.txt"
+    same "$work/texts.txt" "$work/page.txt" && same "$work/texts.txt" "$work/command.txt"
+}
+page_has_statuses() {
+    local number
     for number in 0 1 2 3; do sed -n '/^\.SH EXIT/,/^\.SH TEXT/p' man/jougsilver.1 | grep -qx "\.B $number" || return; done
 }
 # The manual's example is a text, and the second program lists it as it stands there.
@@ -188,6 +190,7 @@ check "an installed copy can be moved, and says where it isn't whole" not_whole
 [ ! -x scripts/picture ] || check "the installed jougsilver draws as ./jougsilver does" installed_picture
 check "jougsilver.1 has no mark that groff doesn't know" page_is_clean jougsilver.1
 check "jougsilver.3 has no mark that groff doesn't know" page_is_clean jougsilver.3
-check "jougsilver.1 has the header's refusals and the statuses" page_has_refusals
+check "header, manual and commands say each refusal in the same words" refusals_agree
+check "jougsilver.1 has the exit statuses" page_has_statuses
 check "jougsilver.1 has an example that is listed as it says" page_example
 check "make uninstall takes everything away" uninstalled

@@ -1,4 +1,7 @@
-/* The header's own functions against the rules (docs/RULES.md, 12 and 14). C99, C11 and C++17 alike: prints what is wrong. */
+/*
+ * The header's own functions against the rules (docs/RULES.md, 12 and 14), in C99, C11 and C++17 alike: prints what is wrong.
+ * With a word after its name it prints each refusal's number and text instead.
+ */
 #include <jougsilver.h>
 
 #include <stdio.h>
@@ -85,8 +88,11 @@ static void version(void)
     expect(strcmp(text, JOUGSILVER_VERSION) == 0, "the version's numbers are its text");
 }
 
-int main(void)
+int main(int argc, char **argv)
 {
+    (void)argv;
+    for (int i = 0; argc > 1 && i < NUMBERS; i++)
+        printf("%u %s\n", (unsigned)numbers[i], jougsilver_refusal_text(numbers[i]));
     texts();
     decoding();
     margins();
