@@ -56,19 +56,19 @@ extern "C" {
  */
 enum {
     JOUGSILVER_TAKEN = 0,
-    JOUGSILVER_CUT = 1,           /* under 4 bytes left where a record must begin, or the record runs past the end */
-    JOUGSILVER_KIND = 2,          /* a kind that no record has */
-    JOUGSILVER_LENGTH = 3,        /* a length that isn't its kind's */
-    JOUGSILVER_NO_COMPONENT = 4,  /* a task before any component */
-    JOUGSILVER_NUMBER = 5,        /* a component number that isn't above the one before */
-    JOUGSILVER_TASKS = 6,         /* a 65th task in a component */
-    JOUGSILVER_COMPONENTS = 7,    /* a 257th component */
-    JOUGSILVER_END = 8,           /* a wrong count in the end record, or bytes after it */
-    JOUGSILVER_RANGE = 9,         /* a number outside its range */
-    JOUGSILVER_LONG = 10,         /* a common period above 1,048,576: too long to be judged exactly */
-    JOUGSILVER_ROOM = 11,         /* a place past the reply buffer, or too little room from there */
-    JOUGSILVER_SHEET = 14,        /* a sheet of more than 65,536 bytes */
-    JOUGSILVER_PLACE = 15         /* no component at that place */
+    JOUGSILVER_CUT = 1,           /* the bytes end inside a record, or with no end record */
+    JOUGSILVER_KIND = 2,          /* no record has that kind */
+    JOUGSILVER_LENGTH = 3,        /* no record of that kind has that length */
+    JOUGSILVER_NO_COMPONENT = 4,  /* a task comes before the first component */
+    JOUGSILVER_NUMBER = 5,        /* component numbers don't rise */
+    JOUGSILVER_TASKS = 6,         /* a component has a 65th task */
+    JOUGSILVER_COMPONENTS = 7,    /* there are over 256 components */
+    JOUGSILVER_END = 8,           /* the end record counts wrong, or isn't the last thing there */
+    JOUGSILVER_RANGE = 9,         /* a number is out of its range (RULES 2) */
+    JOUGSILVER_LONG = 10,         /* the common period is over 1,048,576: too long to be judged exactly */
+    JOUGSILVER_ROOM = 11,         /* the reply doesn't fit into the buffer from that place on */
+    JOUGSILVER_SHEET = 14,        /* the sheet has over 65,536 bytes */
+    JOUGSILVER_PLACE = 15         /* the sheet has fewer components than that */
 };
 
 /* Codes of a reply. */

@@ -77,6 +77,7 @@ outside_fresh() {
     for sheet in "$work"/sheets/*; do outside_verdicts "$sheet" || return; done
 }
 stack_is_enough() { run_abroad ./worst; }
+measured() { make measure RUNS=1 >"$work/made" && [ "$(grep -c '^\(judge\|check\), .* bytes of stack .* ms$' "$work/made")" -eq 6 ]; }
 
 # ---- the installed commands, from another folder and with no rt on the PATH
 installed_command() { # NAME WORD...
@@ -175,6 +176,7 @@ check "the header's functions hold as C99" helped "$for_c" c c99
 check "the header's functions hold as C11" helped "$for_c" c c11
 check "the header's functions hold as C++17" helped "$for_cxx" c++ c++17
 check "no call takes more stack than the header says" stack_is_enough
+check "make measure has the stack and the time of each call" measured
 check "the C project judges 100 fresh sheets as second does" outside_fresh
 check "rt is not on the PATH of the installed commands" no_rt
 for file in examples/sheets/*.txt; do
