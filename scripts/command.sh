@@ -149,4 +149,8 @@ explain() { # NUMBER PLACE
     [ -n "$text" ] || ! looks_like_text || say "$shown looks like a sheet's text: $for_text"
 }
 for_text="--text reads it as one, and so does a name that ends in .txt"
-looks_like_text() { LC_ALL=C grep -a -q -E $'^(\xef\xbb\xbf)?[[:space:]]*(#|(component|task|end)[[:space:]])' -- "$room/sheet"; }
+# A sheet has bytes of value 0 in every record, a text has none.
+looks_like_text() {
+    [ "$(tr -d '\000' <"$room/sheet" | wc -c)" -eq "$(wc -c <"$room/sheet")" ] &&
+        LC_ALL=C grep -a -q -E $'^(\xef\xbb\xbf)?[[:space:]]*(#|(component|task|end)[[:space:]])' -- "$room/sheet"
+}

@@ -114,8 +114,8 @@ run_rt() { # NAME WORD...
 progress() { # NAME LOG
     local line begun= status
     while :; do
-        IFS= read -r -t 1 line
-        status=$?
+        status=0
+        IFS= read -r -t 3 line || status=$?
         if [ "$status" -gt 128 ]; then
             [ -n "$begun" ] || tell "proving and building $1, which takes some minutes the first time (log: $2)"
             begun=1

@@ -188,7 +188,7 @@ check "nor is it the second time" meets 3 - "The end of $front/repo/target/ready
 check "the log's end is shown" grep -q '^rt: judge NOT PROVED (exit 1, 3 s)$' "$front/err"
 check "each crate that is proved has its line" meets 1 "$front/five.listing" '^jougsilver: budget proved (30 s)$' \
     over_rt 'echo "fn budget::supply: proved"; echo "rt: budget proved (30 s)"'
-check "a long check says what it does and where its log is" meets 1 "$front/five.listing" "proving and building listing.*$front/repo/target/ready-listing.log" over_rt 'sleep 1.5'
+check "a long check says what it does and where its log is" meets 1 "$front/five.listing" "proving and building listing.*$front/repo/target/ready-listing.log" over_rt 'sleep 4'
 builds="cp '$PWD/target/bin/listing' target/bin/listing"
 cp target/bin/exercise "$front/repo/target/bin/listing"
 check "what rt has just built is what runs" meets 1 "$front/five.listing" '' over_rt "$builds"
@@ -275,7 +275,7 @@ for command in jougsilver sheet scripts/host; do
     check "$command names itself as it was called" meets 3 - "^a $name: nothing can't be read" elsewhere nothing
     check "$command on a name that begins with a dash" meets "$status" "$output" '' elsewhere -- "$dashed"
     piped() { cat -- "$file" | "./a $name" "$@"; }
-    [ "$name" = host ] || check "$command on standard input" meets "$status" "$output" '' piped
+    check "$command on standard input" meets "$status" "$output" '' piped
     check "$command on standard input by its name" meets "$status" "$output" '' piped -
     on_terminal() { (cd "$at" && script -qec "'./a $name' >/dev/null" /dev/null) </dev/null >"$front/screen"; grep -q "^a $name: reading standard input" "$front/screen"; }
     check "$command hints where standard input is a terminal" on_terminal
@@ -290,6 +290,9 @@ check "scripts/host reads text too" meets 1 "$front/five.table" '' "$top/scripts
 as_bytes() { "$top/jougsilver" <five.txt; }
 printf 'refused 2 0\n' >"$front/unknown.listing"
 check "text that is given as bytes is refused, with a hint" meets 2 "$front/unknown.listing" "^jougsilver: standard input looks like a sheet's text: --text " as_bytes
+printf '\n#\000\000' >"$front/hash.sheet"
+echo 'jougsilver: hash.sheet: byte 0: refused 2 (a record of unknown kind)' >"$front/hash.err"
+check "a damaged sheet is not taken for a text" meets_exactly 2 "$front/unknown.listing" "$front/hash.err" "$top/jougsilver" hash.sheet
 echo 'jougsilver: range.txt:4: refused 9 (a number outside its range): task 8 9 7' >"$front/range.err"
 check "a refusal leads back to the text's line" meets_exactly 2 "$front/range.listing" "$front/range.err" "$top/jougsilver" range.txt
 "$second" bytes <"$front/range.txt" >"$front/range.sheet"
