@@ -24,8 +24,9 @@ second generate SEED COUNT KIND   calls of a kind (`second kinds` lists them)
 second kinds               the kinds of call
 second sheets SEED COUNT DIR      sheets, sound and damaged, into the files 1, 2, .. of a folder
 second list                the listing of the sheet on standard input
-second text                the sheet on standard input as text, one line a record
-second bytes               such a text on standard input as a sheet
+second text                the sheet on standard input as text, one line a record; status 1 and `refused NUMBER PLACE` where it has none
+second bytes               such a text on standard input as a sheet; status 1 and a message a line where lines are wrong
+second line PLACE          the line of such a text whose record has the byte at a place; status 1 as above
 second every traces|components|runs|sheets   every small call of a kind
 second rows                the rows of the benchmark, a line each
 second row PLACE KIND      the calls of a row (`walk`: the longest walk)
@@ -48,6 +49,26 @@ fn each_call(mut work: impl FnMut(calls::Call) -> Result<(), String>) -> Result<
 
 fn number(word: &str) -> Result<u64, String> {
     word.parse().map_err(|_| format!("`{word}` is not a number\n{USAGE}"))
+}
+
+/// What a command on a text prints, or why the text or the sheet is not taken, a message a line.
+fn text_command(words: &[&str]) -> Option<Result<Vec<u8>, Vec<String>>> {
+    let given = || input().map_err(|wrong| vec![wrong]);
+    Some(match words {
+        ["text"] => given().and_then(|sheet| match text::text(&sheet) {
+            Ok(lines) => Ok(lines.into_bytes()),
+            Err((refusal, place)) => Err(vec![format!("refused {refusal} {place}")]),
+        }),
+        ["bytes"] => given().and_then(|written| text::written(&written)).map(|taken| taken.bytes),
+        ["line", place] => match place.parse() {
+            Ok(place) => given().and_then(|written| text::written(&written)).and_then(|taken| match taken.line(place) {
+                Ok(line) => Ok(format!("{line}\n").into_bytes()),
+                Err(wrong) => Err(vec![wrong]),
+            }),
+            Err(_) => Err(vec![format!("`{place}` is no byte place")]),
+        },
+        _ => return None,
+    })
 }
 
 fn command(words: &[&str]) -> Result<(), String> {
@@ -97,11 +118,6 @@ fn command(words: &[&str]) -> Result<(), String> {
             said(out.write_all(bench::calls(row, kind).as_bytes()))?;
         }
         ["list"] => said(out.write_all(listing::listing(&input()?).as_bytes()))?,
-        ["text"] => said(out.write_all(text::text(&input()?)?.as_bytes()))?,
-        ["bytes"] => {
-            let written = String::from_utf8(input()?).map_err(|_| "the text is not UTF-8".to_string())?;
-            said(out.write_all(&text::bytes(&written)?))?;
-        }
         ["coverage"] => {
             let mut seen = coverage::Seen::default();
             each_call(|call| {
@@ -123,7 +139,15 @@ fn command(words: &[&str]) -> Result<(), String> {
 fn main() -> ExitCode {
     let words: Vec<String> = std::env::args().skip(1).collect();
     let words: Vec<&str> = words.iter().map(String::as_str).collect();
-    match command(&words) {
+    let done = match text_command(&words) {
+        Some(Err(messages)) => {
+            eprintln!("{}", messages.join("\n"));
+            return ExitCode::from(1);
+        }
+        Some(Ok(bytes)) => std::io::stdout().write_all(&bytes).and_then(|()| std::io::stdout().flush()).map_err(|error| error.to_string()),
+        None => command(&words),
+    };
+    match done {
         Ok(()) => ExitCode::SUCCESS,
         Err(message) => {
             eprintln!("second: {message}");

@@ -1,0 +1,156 @@
+/*
+ * The stack and the time of a call on the hardest sheets that are known.
+ *
+ *     worst [RUNS]
+ *
+ * Prints a line for each and ends with 1 where a call took more stack than the header says. Stack: the call runs on a
+ * thread whose stack was filled with one byte beforehand; what it took, with all that it calls, reaches from the caller's
+ * frame down to the lowest byte that changed. Time: processor time of the thread, the least and the greatest of RUNS runs
+ * (1 where no number is given).
+ */
+#define _POSIX_C_SOURCE 200809L
+
+#include <jougsilver.h>
+
+#include <pthread.h>
+#include <stdio.h>
+#include <stdlib.h>
+#include <string.h>
+#include <time.h>
+
+enum { STACK = 1 << 20, PAINT = 0xa5, LIMIT = 1 << 20, TASKS = 64, COMPONENTS = 256, ASKED = -1 };
+
+static uint8_t sheet[65536];
+static size_t length, place;
+static double milliseconds;
+static uint8_t *stack, *frame;
+
+static void put(uint32_t value, int width) {
+    for (int i = 0; i < width; i++, value >>= 8) sheet[length++] = (uint8_t)value;
+}
+
+static void component(unsigned number, long capacity) {
+    put(capacity == ASKED ? 14 : 18, 2);
+    put(capacity == ASKED ? 4 : 1, 2);
+    put(number, 2);
+    put(LIMIT, 4);
+    if (capacity != ASKED) put((uint32_t)capacity, 4);
+    put(LIMIT, 4);
+}
+
+static void task(uint32_t period, uint32_t deadline) {
+    put(16, 2);
+    put(2, 2);
+    put(period, 4);
+    put(1, 4);
+    put(deadline, 4);
+}
+
+static void end(unsigned count) {
+    put(6, 2);
+    put(3, 2);
+    put(count, 2);
+}
+
+/* One of 64 tasks is due at each instant, in an order that is none of the table's: 37 is prime to 64. Accepted at the full
+   deadline and no sooner, so that every instant up to the limit is looked at. */
+static void in_turn(void) {
+    for (uint32_t i = 0; i < TASKS; i++) task(TASKS, i * 37 % TASKS + 1);
+}
+
+static void asked(void) {
+    component(1, ASKED);
+    in_turn();
+    end(1);
+}
+
+static void stated(void) {
+    component(1, LIMIT);
+    in_turn();
+    end(1);
+}
+
+/* All 64 tasks are due at each instant: short at once, but the margin is measured over all of them. */
+static void at_once(void) {
+    component(1, LIMIT);
+    for (int i = 0; i < TASKS; i++) task(1, 1);
+    end(1);
+}
+
+/* The asked one as the last of 256 components; no sheet of 256 has more than these 65,534 bytes. */
+static void last_of_many(void) {
+    for (unsigned number = 0; number < COMPONENTS - 1; number++) {
+        component(number, number < 2 ? LIMIT : ASKED);
+        for (int i = 0; i < (number < 237 ? 15 : 14); i++) task(1, 1);
+    }
+    component(COMPONENTS - 1, ASKED);
+    in_turn();
+    end(COMPONENTS);
+    place = COMPONENTS - 1;
+}
+
+static double now(void) {
+    struct timespec at;
+    if (clock_gettime(CLOCK_THREAD_CPUTIME_ID, &at) != 0) exit(3);
+    return (double)at.tv_sec * 1e3 + (double)at.tv_nsec / 1e6;
+}
+
+static void *judge(void *reply) {
+    uint8_t here;
+    frame = &here;
+    double from = now();
+    if (jougsilver_judge(sheet, length, place, (uint8_t *)reply, JOUGSILVER_REPLY_LENGTH, 0) != JOUGSILVER_TAKEN) exit(3);
+    milliseconds = now() - from;
+    return NULL;
+}
+
+static void *check(void *reply) {
+    uint8_t here;
+    frame = &here;
+    double from = now();
+    if (jougsilver_check(sheet, length, (uint8_t *)reply, JOUGSILVER_CHECK_LENGTH, 0) != JOUGSILVER_TAKEN) exit(3);
+    milliseconds = now() - from;
+    return NULL;
+}
+
+/* The stack that one call took. */
+static size_t stack_of(void *(*call)(void *)) {
+    uint8_t reply[JOUGSILVER_REPLY_LENGTH];
+    pthread_attr_t where;
+    pthread_t thread;
+    size_t lowest = 0;
+    memset(stack, PAINT, STACK);
+    if (pthread_attr_init(&where) != 0 || pthread_attr_setstack(&where, stack, STACK) != 0) exit(3);
+    if (pthread_create(&thread, &where, call, reply) != 0 || pthread_join(thread, NULL) != 0) exit(3);
+    pthread_attr_destroy(&where);
+    while (stack[lowest] == PAINT) lowest++;
+    return (size_t)(frame - stack) - lowest;
+}
+
+static int measure(const char *name, void (*make)(void), void *(*call)(void *), int runs) {
+    size_t most = 0;
+    double least = 1e9, greatest = 0;
+    length = place = 0;
+    make();
+    for (int i = 0; i < runs; i++) {
+        size_t took = stack_of(call);
+        if (took > most) most = took;
+        if (milliseconds < least) least = milliseconds;
+        if (milliseconds > greatest) greatest = milliseconds;
+    }
+    printf("%-40s %6zu bytes of stack  %8.3f to %.3f ms\n", name, most, least, greatest);
+    return most > JOUGSILVER_STACK;
+}
+
+int main(int argc, char **argv) {
+    int runs = argc > 1 ? atoi(argv[1]) : 1, over = 0;
+    if (runs < 1 || posix_memalign((void **)&stack, 4096, STACK) != 0) return 3;
+    over |= measure("judge, first call of the program", stated, judge, 1);
+    over |= measure("judge, stated", stated, judge, runs);
+    over |= measure("judge, all tasks due at each instant", at_once, judge, runs);
+    over |= measure("judge, asked", asked, judge, runs);
+    over |= measure("judge, asked, last of 256 components", last_of_many, judge, runs);
+    over |= measure("check, 256 components", last_of_many, check, runs);
+    if (over) printf("more than the %d bytes of stack that the header says\n", JOUGSILVER_STACK);
+    return over;
+}
