@@ -93,27 +93,25 @@ function place_windows(    v, columns, top) {
     return top + (w > 1 ? 465 + 280 : 360) + 58 + 118
 }
 
-# The units that a window shows: all of them in the first, in the others those around the marks.
-function find_range(v,    i, fewest, top, around) {
-    fewest = supply[v, 1]; top = 0
-    for (i = 1; i <= count[v]; i++) {
-        if (fewest > supply[v, i]) fewest = supply[v, i]
-        if (fewest > demand[v, i]) fewest = demand[v, i]
-        if (top < supply[v, i]) top = supply[v, i]
-        if (top < demand[v, i]) top = demand[v, i]
-    }
+# The units that a window shows: in the first all of them, in the others those around the marks. A frame that cuts a curve off stands
+# between two units, so that no step runs along it.
+function find_range(v,    fewest, top, spare) {
+    fewest = least(supply[v, 1], demand[v, 1])
+    top = most(supply[v, count[v]], demand[v, count[v]])
     if (v > 1) {
-        marked_least = top; marked_most = fewest; apart = 0
-        for (i = 1; i <= count[v]; i++)
-            if (t[v, i] == instant || t[v, i] == short) note(supply[v, i], demand[v, i])
-        around = apart > 2 ? 3 * apart : 8
-        if (fewest < marked_least - around) fewest = marked_least - around
-        if (top > marked_most + around) top = marked_most + around
+        find_marked(v, top, fewest)
+        spare = apart > 2 ? 3 * apart : 8
+        fewest = most(fewest, marked_least - spare)
+        top = least(top, marked_most + spare)
     }
-    # a frame that cuts a curve off stands between two units, so that no step runs along it
-    around = int((top - fewest) / 16)
-    low[v] = v == 1 || fewest - around < 1 ? 0 : fewest - around - 0.6
-    high[v] = top + around + (v == 1 ? 1 : 0.6)
+    spare = int((top - fewest) / 16)
+    low[v] = v == 1 || fewest - spare < 1 ? 0 : fewest - spare - 0.6
+    high[v] = top + spare + (v == 1 ? 1 : 0.6)
+}
+function find_marked(v, top, fewest,    i) {
+    marked_least = top; marked_most = fewest; apart = 0
+    for (i = 1; i <= count[v]; i++)
+        if (t[v, i] == instant || t[v, i] == short) note(supply[v, i], demand[v, i])
 }
 function note(one, other) {
     marked_least = least(marked_least, least(one, other))
@@ -162,7 +160,7 @@ function draw(v) {
     axes(v)
     labels(v)
     printf "<g clip-path=\"url(#area%d)\">\n", v
-    if (capacity) stroke(x_of(v, deadline - capacity), y_of(v, 0), x_of(v, to[v]), y_of(v, line_at(to[v])), line_colour, 1.5, " stroke-dasharray=\"7 4\" id=\"line" v "\"")
+    if (capacity) straight_line(v)
     print "</g>"
     printf "<g clip-path=\"url(#curves%d)\">\n", v
     curve("supply" v, supply_points(v), supply_colour, supply_thick)
@@ -174,22 +172,30 @@ function clip(id, v, room) {
     printf "<clipPath id=\"%s\"><rect x=\"%.2f\" y=\"%.2f\" width=\"%.2f\" height=\"%.2f\"/></clipPath>\n", id, box_left[v] - room, box_top[v] - room, box_width[v] + 2 * room, box_height[v] + 2 * room
 }
 
+# The straight line, from where it enters the box to where it leaves it: nothing is drawn far outside.
+function straight_line(v,    begin, end) {
+    begin = most(from[v], deadline - capacity + low[v] * period / capacity)
+    end = least(to[v], deadline - capacity + high[v] * period / capacity)
+    if (begin < end) stroke(x_of(v, begin), y_of(v, line_at(begin)), x_of(v, end), y_of(v, line_at(end)), line_colour, 1.5, " stroke-dasharray=\"7 4\" id=\"line" v "\"")
+}
+
 # Both curves hold until the instant where they rise, but in a window that asks for corners only the supply rises in a straight line
-# from corner to corner, a unit a slot.
+# from corner to corner, a unit a slot. A step that leads far out of the box is cut a little outside it.
 function demand_points(v,    i, s) {
-    s = point(v, t[v, 1], demand[v, 1])
+    s = step_point(v, t[v, 1], demand[v, 1])
     for (i = 2; i <= count[v]; i++)
-        if (demand[v, i] != demand[v, i - 1]) s = s " " point(v, t[v, i], demand[v, i - 1]) " " point(v, t[v, i], demand[v, i])
-    return s " " point(v, to[v], demand[v, count[v]])
+        if (demand[v, i] != demand[v, i - 1]) s = s " " step_point(v, t[v, i], demand[v, i - 1]) " " step_point(v, t[v, i], demand[v, i])
+    return s " " step_point(v, to[v], demand[v, count[v]])
 }
 function supply_points(v,    i, s) {
-    s = point(v, t[v, 1], supply[v, 1])
+    s = every[v] ? step_point(v, t[v, 1], supply[v, 1]) : point(v, t[v, 1], supply[v, 1])
     for (i = 2; i <= count[v]; i++)
         if (!every[v]) s = s " " point(v, t[v, i], supply[v, i])
-        else if (supply[v, i] != supply[v, i - 1]) s = s " " point(v, t[v, i], supply[v, i - 1]) " " point(v, t[v, i], supply[v, i])
-    return s " " point(v, to[v], supply[v, count[v]])
+        else if (supply[v, i] != supply[v, i - 1]) s = s " " step_point(v, t[v, i], supply[v, i - 1]) " " step_point(v, t[v, i], supply[v, i])
+    return every[v] ? s " " step_point(v, to[v], supply[v, count[v]]) : s
 }
 function point(v, instant, units) { return sprintf("%.2f,%.2f", x_of(v, instant), y_of(v, units)) }
+function step_point(v, instant, units) { return sprintf("%.2f,%.2f", x_of(v, instant), most(box_top[v] - 20, least(box_top[v] + box_height[v] + 20, y_of(v, units)))) }
 function curve(id, points, colour, thick) {
     printf "<polyline id=\"%s\" points=\"%s\" fill=\"none\" stroke=\"%s\" stroke-width=\"%s\" stroke-linejoin=\"round\"/>\n", id, points, colour, thick
 }
@@ -197,27 +203,29 @@ function under(v, points, colour) {
     printf "<polygon points=\"%s %s %s\" fill=\"%s\"/>\n", points, point(v, to[v], low[v]), point(v, from[v], low[v]), colour
 }
 
-function axes(v,    x, y, step, tick, bottom) {
-    bottom = box_top[v] + box_height[v]
+function axes(v) {
+    instants_axis(v, box_top[v] + box_height[v])
+    units_axis(v, box_left[v] - left + 18, box_top[v] + box_height[v] / 2)
+    printf "<rect x=\"%.2f\" y=\"%.2f\" width=\"%.2f\" height=\"%.2f\" fill=\"none\" stroke=\"#404040\" stroke-width=\"1\"/>\n", box_left[v], box_top[v], box_width[v], box_height[v]
+}
+function instants_axis(v, bottom,    x, step, tick) {
     step = tick_step(to[v] - from[v], box_width[v] / (26 + 7.5 * length(grouped(to[v]))))
     for (tick = up(from[v] / step) * step; tick <= to[v]; tick += step) {
         x = x_of(v, tick)
         stroke(x, box_top[v], x, bottom + 5, "#C4C4C4", 0.6, "")
         text(x, bottom + 20, "middle", grouped(tick), "")
     }
+    text(box_left[v] + box_width[v] / 2, bottom + 40, "middle", "instant t, in slots" nearer(v), "")
+}
+function units_axis(v, beside, middle,    y, step, tick) {
     step = tick_step(high[v] - low[v], box_height[v] / 28)
     for (tick = up(low[v] / step) * step; tick <= high[v]; tick += step) {
         y = y_of(v, tick)
         stroke(box_left[v] - 5, y, box_left[v] + box_width[v], y, "#C4C4C4", 0.6, "")
         text(box_left[v] - 9, y + 4.5, "end", grouped(tick), "")
     }
-    printf "<rect x=\"%.2f\" y=\"%.2f\" width=\"%.2f\" height=\"%.2f\" fill=\"none\" stroke=\"#404040\" stroke-width=\"1\"/>\n", box_left[v], box_top[v], box_width[v], box_height[v]
-    text(box_left[v] + box_width[v] / 2, bottom + 40, "middle", "instant t, in slots" nearer(v), "")
-    y = box_top[v] + box_height[v] / 2
-    x = box_left[v] - left + 18
-    text(x, y, "middle", "units", sprintf(" transform=\"rotate(-90 %.2f %.2f)\"", x, y))
+    text(beside, middle, "middle", "units", sprintf(" transform=\"rotate(-90 %.2f %.2f)\"", beside, middle))
 }
-
 function nearer(v) {
     if (v == 1) return ""
     return instant > to[v] ? ": around the first short instant" : ": around the margin"
@@ -253,7 +261,7 @@ function labels(v,    edge, leftward, upper, lower) {
         label(x_of(v, instant), leftward ? upper : lower, margin_words, leftward)
     }
 }
-function room(s) { return 10 + 7.2 * letters(s) }
+function room(s) { return 10 + 7.8 * letters(s) }
 function letters(s) { gsub(/[\200-\277]/, "", s); return length(s) }
 function label(x, y, s, leftward) { text(x + (leftward ? -6 : 6), y, leftward ? "end" : "start", s, " font-weight=\"bold\"") }
 
@@ -270,8 +278,7 @@ function dimension(v,    x, upper, lower) {
     if (v == last_margin) dimension_words(v, x, upper, lower, signed(margin))
 }
 
-# Where the margin is negative both curves lie below on its left, where it is positive they are apart on its right, and where it is 0
-# they lie below on its left.
+# The number goes where no curve runs: left of a negative margin, right of a positive one, above and left of 0.
 function dimension_words(v, x, upper, lower, s,    long) {
     long = 14 + 10 * letters(s)
     if (margin == 0) haloed(x - 9, upper - 9, x - long > box_left[v] ? "end" : "start", s)

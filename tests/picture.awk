@@ -58,11 +58,7 @@ match($0, /^<circle id="margin[0-9]"/) {
     expect(part($0, "cx") " " part($0, "cy"), x_of(v, of_margin[2]) " " y_of(v, at(supply, v, of_margin[2])))
     expect(of_margin[1], 0)
 }
-match($0, /id="line[0-9]"/) {
-    v = substr($0, RSTART + 8, 1); lines[v]++
-    expect(part($0, "x1") " " part($0, "y1"), x_of(v, deadline - capacity) " " y_of(v, 0))
-    expect(part($0, "x2") " " part($0, "y2"), x_of(v, to[v]) " " y_of(v, line(to[v]) / period))
-}
+match($0, /id="line[0-9]"/) { v = substr($0, RSTART + 8, 1); lines[v]++; on_line(v, part($0, "x1"), part($0, "y1"), 0); on_line(v, part($0, "x2"), part($0, "y2"), 1) }
 /<text / { label = $0; gsub(/<[^>]*>/, "", label); gsub(/,/, "", label); sub(/\342\210\222/, "-", label); labels[label]++ }
 
 END {
@@ -72,7 +68,7 @@ END {
         expect(t[v, count[v]], to[v])
         expect(curves["supply", v] + 0, 1)
         expect(curves["demand", v] + 0, tasks > 0)
-        expect(lines[v] + 0, capacity > 0)
+        expect(lines[v] + 0, capacity > 0 && to[v] > deadline - capacity && line(to[v]) > low[v] * period && line(from[v]) < high[v] * period)
     }
     expect(shorts + 0, short != "")
     expect(margins + 0, margin != "none")
@@ -96,6 +92,14 @@ function caption(    v, d, s) {
     s = at(supply, v, of_margin[2])
     return "At instant " of_margin[2] " demand is " d (d == 1 ? " unit" : " units") " and supply " s (s == 1 ? " unit" : " units") ": margin " (of_margin[1] > 0 ? "+" : "") of_margin[1] "."
 }
+# An end of the straight line lies on it, and where it enters or leaves the box; pixels are given to two places.
+function on_line(v, x, y, leaves,    t, near) {
+    t = from[v] + (x - box_left[v]) * (to[v] - from[v]) / box_width[v]
+    near = 0.01 + 0.01 * capacity / period * (to[v] - from[v]) / box_width[v] * box_height[v] / (high[v] - low[v])
+    if (!close_to(y, y_of(v, line(t) / period), near)) wrong("the straight line passes by " x ", " y)
+    if (!close_to(x, box_left[v] + leaves * box_width[v], 0.01) && !close_to(y, box_top[v] + !leaves * box_height[v], 0.01)) wrong("the straight line ends at " x ", " y)
+}
+function close_to(a, b, near) { return a - b <= near && b - a <= near }
 function line(t) { return capacity * (t - (deadline - capacity)) }
 function value() { if ((getline said <answers) < 1 || said !~ /^ok [0-9]+$/) wrong("an answer"); return substr(said, 4) }
 function at(curve, v, instant,    i) {
@@ -106,21 +110,26 @@ function part(element, name) { match(element, " " name "=\"[^\"]*\""); return su
 function x_of(v, instant) { return sprintf("%.2f", box_left[v] + (instant - from[v]) * box_width[v] / (to[v] - from[v])) }
 function y_of(v, units) { return sprintf("%.2f", box_top[v] + box_height[v] - (units - low[v]) * box_height[v] / (high[v] - low[v])) }
 
-# A curve's points are, in order: its value at each instant where it changes, before that the value held until then where it holds, and
-# its value at the window's end.
+# A curve's points are, in order: its value at each instant where it changes, before that the value held until then, and its value at
+# the window's end; where it isn't drawn in steps, its value at each instant. Steps may be cut 20 pixels outside the box.
 function follow(name, v, points,    i, n, ramp) {
     curves[name, v]++
     ramp = name == "supply" && !every[v]
     n = 0
     for (i = 1; i <= count[v]; i++) {
         now = name == "supply" ? supply[v, i] : demand[v, i]
-        if (i > 1 && !ramp && now != held) must[++n] = x_of(v, t[v, i]) "," y_of(v, held)
-        if (i == 1 || ramp || now != held) must[++n] = x_of(v, t[v, i]) "," y_of(v, now)
+        if (i > 1 && !ramp && now != held) must[++n] = x_of(v, t[v, i]) "," cut(v, y_of(v, held))
+        if (i == 1 || ramp || now != held) must[++n] = x_of(v, t[v, i]) "," (ramp ? y_of(v, now) : cut(v, y_of(v, now)))
         held = now
     }
-    must[++n] = x_of(v, to[v]) "," y_of(v, held)
+    if (!ramp) must[++n] = x_of(v, to[v]) "," cut(v, y_of(v, held))
     expect(split(points, found, " "), n)
     for (i = 1; i <= n; i++) expect(found[i], must[i])
+}
+function cut(v, y) {
+    if (y + 0 < box_top[v] - 20) y = box_top[v] - 20
+    if (y + 0 > box_top[v] + box_height[v] + 20) y = box_top[v] + box_height[v] + 20
+    return sprintf("%.2f", y)
 }
 function expect(found, must) { if (found "" != must "") wrong("found '" found "', not '" must "'") }
 function wrong(what) { print what; failed = 1 }
