@@ -240,25 +240,27 @@ function tick_step(span, many,    step, n) {
 }
 function up(x) { return int(x) < x ? int(x) + 1 : int(x) }
 
-# ---- the marks: the first short instant as a line, the margin as a dimension between the curves; their labels stand above the box,
-# the lower label further along the way the labels run, so that no line from a label crosses another label
+# ---- the marks: the first short instant as a line, the margin as a dimension between the curves. Their labels stand above the box, to
+# the right of their lines where there is room. The first short instant is never the later one: its label is the upper one where the
+# margin's runs to the right, and the lower one where that runs to the left, so that no line crosses a label.
 
-function labels(v,    edge, leftward, upper, lower) {
+function labels(v,    edge, margin_left, short_left, upper, lower) {
     edge = box_left[v] + box_width[v]
     shows_short = short && short >= from[v] && short <= to[v]
     shows_margin = instant && instant >= from[v] && instant <= to[v]
     short_words = "first short instant: " grouped(short)
     margin_words = "margin " signed(margin) " at instant " grouped(instant)
-    leftward = shows_margin && x_of(v, instant) + room(margin_words) > edge || shows_short && x_of(v, short) + room(short_words) > edge
+    margin_left = shows_margin && x_of(v, instant) + room(margin_words) > edge
+    short_left = x_of(v, short) + room(short_words) > edge || margin_left && x_of(v, short) - room(short_words) > 0
     lower = box_top[v] - 8
     upper = shows_short && shows_margin ? lower - 22 : lower
     if (shows_short) {
-        stroke(x_of(v, short), (leftward ? lower : upper) - 10, x_of(v, short), box_top[v] + box_height[v], "#000000", 1.4, " stroke-dasharray=\"2 3\"")
-        label(x_of(v, short), leftward ? lower : upper, short_words, leftward)
+        stroke(x_of(v, short), (margin_left ? lower : upper) - 10, x_of(v, short), box_top[v] + box_height[v], "#000000", 1.4, " stroke-dasharray=\"2 3\"")
+        label(x_of(v, short), margin_left ? lower : upper, short_words, short_left)
     }
     if (shows_margin) {
-        if (short != instant) stroke(x_of(v, instant), (leftward ? upper : lower) - 10, x_of(v, instant), y_of(v, most(demand_there, supply_there)), "#000000", 0.8, "")
-        label(x_of(v, instant), leftward ? upper : lower, margin_words, leftward)
+        if (short != instant) stroke(x_of(v, instant), (margin_left ? upper : lower) - 10, x_of(v, instant), y_of(v, most(demand_there, supply_there)), "#000000", 0.8, "")
+        label(x_of(v, instant), margin_left ? upper : lower, margin_words, margin_left)
     }
 }
 function room(s) { return 10 + 7.8 * letters(s) }

@@ -59,6 +59,8 @@ match($0, /^<circle id="margin[0-9]"/) {
     expect(of_margin[1], 0)
 }
 match($0, /id="line[0-9]"/) { v = substr($0, RSTART + 8, 1); lines[v]++; on_line(v, part($0, "x1"), part($0, "y1"), 0); on_line(v, part($0, "x2"), part($0, "y2"), 1) }
+/^<svg / { width = part($0, "width") + 0 }
+/<text / { inside_picture($0) }
 /<text / { label = $0; gsub(/<[^>]*>/, "", label); gsub(/,/, "", label); sub(/\342\210\222/, "-", label); labels[label]++ }
 
 END {
@@ -106,7 +108,7 @@ function at(curve, v, instant,    i) {
     for (i = 1; i <= count[v]; i++) if (t[v, i] == instant) return curve[v, i]
     wrong("instant " instant " is marked where it isn't shown")
 }
-function part(element, name) { match(element, " " name "=\"[^\"]*\""); return substr(element, RSTART + length(name) + 3, RLENGTH - length(name) - 4) }
+function part(element, name) { if (!match(element, " " name "=\"[^\"]*\"")) return ""; return substr(element, RSTART + length(name) + 3, RLENGTH - length(name) - 4) }
 function x_of(v, instant) { return sprintf("%.2f", box_left[v] + (instant - from[v]) * box_width[v] / (to[v] - from[v])) }
 function y_of(v, units) { return sprintf("%.2f", box_top[v] + box_height[v] - (units - low[v]) * box_height[v] / (high[v] - low[v])) }
 
@@ -125,6 +127,16 @@ function follow(name, v, points,    i, n, ramp) {
     if (!ramp) must[++n] = x_of(v, to[v]) "," cut(v, y_of(v, held))
     expect(split(points, found, " "), n)
     for (i = 1; i <= n; i++) expect(found[i], must[i])
+}
+# A text's letters, at the width that a wide font gives them, lie inside the picture.
+function inside_picture(element,    s, size, anchor, x) {
+    s = element
+    gsub(/<[^>]*>|[\200-\277]/, "", s)
+    size = part(element, "font-size") ? part(element, "font-size") : 13
+    size *= length(s) * (element ~ /bold/ ? 0.62 : 0.52)
+    anchor = part(element, "text-anchor")
+    x = part(element, "x") - (anchor == "end" ? size : anchor == "middle" ? size / 2 : 0)
+    if (x < 0 || x + size > width) wrong("cut off: " s)
 }
 function cut(v, y) {
     if (y + 0 < box_top[v] - 20) y = box_top[v] - 20

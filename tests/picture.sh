@@ -19,6 +19,7 @@ component_of() { # SHEET NUMBER
 pictured() { # SHEET NUMBER
     scripts/picture "$1" "$2" >"$work/svg" && scripts/picture --second "$1" "$2" >"$work/svg.second" && same "$work/svg.second" "$work/svg" && plain_svg "$work/svg" || return
     local component words judged verdict margin
+    local -x LC_ALL=C
     component=$(component_of "$1" "$2")
     read -ra words <<<"$("$second" list <"$1" | grep "^$2 ")"
     judged=$component
