@@ -7,7 +7,7 @@ BEGIN {
     last = 1048576   # no call takes a later instant
     wide = 240       # a window up to this many slots shows every instant
     many = 200       # and a wider one at most this many corners
-    tall = 360       # pixels of a window's height, about
+    tall = 360       # pixels of the first window's height
 }
 $1 == "component" { asked = $3 == "asked"; first = asked ? 4 : 5; period = $first; deadline = $(first + 1); read_table(first + 2) }
 $1 == "capacity" { capacity = $2 }
@@ -76,7 +76,8 @@ function due(t,    i, sum) {
     return sum
 }
 
-# A window around instants that the first window doesn't show, or shows at less than a quarter of the size and too small.
+# A window around instants that the first window doesn't show, or that it shows at less than a quarter of the size and either in corners
+# only or with less than 10 pixels between the curves.
 function detail(first, second, around) {
     if (second > end || 8 * around < end && (end > wide || tall * around * period < 40 * end * capacity))
         window(most(0, first - around), least(last, second + around))

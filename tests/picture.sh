@@ -2,7 +2,7 @@
 
 # Well-formed, and nothing in it that runs or that lies elsewhere.
 plain_svg() { # FILE
-    { command -v xmllint >/dev/null || need xmllint libxml2-utils; } && xmllint --noout "$1" && ! grep -E '<script|<style|<image|<!|href|url\([^#]' "$1"
+    need xmllint libxml2-utils && xmllint --noout "$1" && ! grep -E '<script|<style|<image|<!|href|url\([^#]' "$1"
 }
 
 # A component as a call has it, from the text of its sheet.
@@ -60,7 +60,12 @@ unpictured() { # REASON COMMAND...
 full_disk() { scripts/picture examples/sheets/press.sheet 1 >/dev/full; }
 
 stored_picture() { scripts/picture examples/sheets/press.sheet 1 >"$work/svg" && same examples/sheets/press.svg "$work/svg"; }
+picture_elsewhere() {
+    local top=$PWD
+    mkdir "$work/a place" && cp examples/sheets/press.sheet "$work/a place" && (cd "$work" && "$top/scripts/picture" "a place/press.sheet" 1) >"$work/svg" && same examples/sheets/press.svg "$work/svg"
+}
 check "examples/sheets/press.svg is the picture of the press" stored_picture
+check "the same from another directory, of a path with a space" picture_elsewhere
 for file in examples/sheets/*.sheet; do
     check "the pictures of $file have second's numbers" pictured_sheet "$file"
 done
