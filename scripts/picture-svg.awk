@@ -145,6 +145,10 @@ function legend() {
         swatch(24, 102, line_colour, " stroke-dasharray=\"7 4\"", 1.5)
         text(64, 106, "start", "straight line \316\230/\316\240 \302\267 (t " minus " (\316\224 " minus " \316\230)): an estimate, above the supply except at its upper corners", "")
     }
+    if (margin < 0) {
+        print "<rect x=\"702\" y=\"95\" width=\"32\" height=\"13\" fill=\"" demand_fill "\"/>"
+        text(742, 106, "start", "demand above supply", "")
+    }
 }
 function swatch(x, y, colour, dashes, thick) { stroke(x, y, x + 32, y, colour, thick, dashes) }
 
