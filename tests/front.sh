@@ -49,6 +49,11 @@ check "status 1: one component is short, one none" meets 1 "$front/five.listing"
 check "status 1: no capacity is enough" meets 1 "$front/never.listing" '' "$top/jougsilver" never.txt
 check "status 1: a common period that is too long" meets 1 "$front/long.listing" '' "$top/jougsilver" long.txt
 check "status 2: an empty sheet" meets 2 "$front/empty.listing" '^jougsilver: empty.sheet: byte 0: refused 1 (' "$top/jougsilver" empty.sheet
+refused_table() {
+    (cd "$front" && "$top/scripts/host" range.txt) >"$front/out" 2>"$front/err"
+    [ $? -eq 2 ] && grep -q '^refused 9 at byte 18' "$front/out" && grep -q -x 'host: range.txt:4: refused 9 (.*): task 8 9 7' "$front/err"
+}
+check "status 2: the C host on a refused sheet" refused_table
 for command in jougsilver sheet scripts/host; do
     name=$(basename "$command")
     check "status 3: $command --wrong" meets 3 - "^usage: $name" "$top/$command" --wrong
@@ -65,7 +70,7 @@ for command in jougsilver sheet scripts/host; do
     check "status 3: $command writing to a closed output" meets 3 - "^$name: standard output can't be written: it is closed$" to_closed
     nowhere() { TMPDIR=$front/nowhere "$top/$command" five.txt; }
     check "status 3: $command without room for temporary files" meets 3 - "^$name: no temporary folder" nowhere
-    check "$command --help has the statuses" meets 0 <("$top/$command" -h) '' "$top/$command" --help
+    check "$command -h and --help print the same" meets 0 <("$top/$command" -h) '' "$top/$command" --help
     helps() { "$top/$command" --help | grep -q '^  3  '; }
     check "$command --help names status 3" helps
     help_to_full() { "$top/$command" --help >/dev/full; }
