@@ -221,7 +221,7 @@ check "two at once: the second waits, says so, and both answer" waits
 orphaned() {
     fresh_repo
     printf 'sleep 60\n' >"$front/does"
-    PATH=$front/bin:$PATH setsid "$front/repo/jougsilver" "$samples/five.sheet" >/dev/null 2>&1 &
+    TMPDIR=$front PATH=$front/bin:$PATH setsid "$front/repo/jougsilver" "$samples/five.sheet" >/dev/null 2>&1 &
     local holder=$!
     called_at_last || return
     kill -s KILL -- "-$holder"
