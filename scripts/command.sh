@@ -1,6 +1,5 @@
 # What ./jougsilver, ./sheet and scripts/host share. Sourced by bash; `help` is set before to the text of --help, whose first lines are
 # the usage. Exit statuses are those of that text; a failure of use or of the machine is 3 and prints nothing on standard output.
-unset CDPATH
 name=${0##*/}
 true 3>&2 || exec 2>/dev/null
 say() { printf '%s: %s\n' "$name" "$*" >&2 || :; }

@@ -6,7 +6,7 @@
 # for who links the exported calls.
 # What `ready` made ready is kept as a copy, named by its content, at ${kept[NAME]}, and `program` runs that copy: so what runs is what was
 # checked, whoever builds meanwhile. Without `ready` before it, `program` runs what stands under target/.
-root=$(cd -- "$(dirname -- "${BASH_SOURCE[0]}")/.." >/dev/null && pwd -P)
+root=$(CDPATH='' cd -- "$(dirname -- "${BASH_SOURCE[0]}")/.." && pwd -P)
 declare -A kept=()
 second=$root/target/second/release/second
 tell() { printf '%s: %s\n' "${0##*/}" "$*" >&2 || :; }
@@ -68,24 +68,20 @@ keep() { # NAME
 }
 
 # One command at a time works under target/: the lock is on a file there, and lasts as long as this shell, or a build that it started, lives.
-# Where target/ was removed meanwhile (rt ci does that) the lock is on a file that nobody else sees, and is taken again.
 locked() {
     local lock=$root/target/lock
     need flock util-linux || return
-    while :; do
-        mkdir -p -- "$root/target" 2>/dev/null && { exec 9>>"$lock"; } 2>/dev/null || {
-            tell "$lock can't be written"
+    mkdir -p -- "$root/target" 2>/dev/null && { exec 9>>"$lock"; } 2>/dev/null || {
+        tell "$lock can't be written"
+        return 1
+    }
+    flock -w 1 9 || {
+        tell "another command is building in $root/target: waiting for it"
+        flock 9 || {
+            tell "$lock can't be locked"
             return 1
         }
-        flock -w 1 9 || {
-            tell "another command is building in $root/target: waiting for it"
-            flock 9 || {
-                tell "$lock can't be locked"
-                return 1
-            }
-        }
-        [ ! "$lock" -ef /proc/self/fd/9 ] || return 0
-    done
+    }
 }
 
 # Proves a crate and what it stands on, as far as something changed since it was last proved. A program that was proved and then removed

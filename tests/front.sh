@@ -49,6 +49,11 @@ check "status 1: one component is short, one none" meets 1 "$front/five.listing"
 check "status 1: no capacity is enough" meets 1 "$front/never.listing" '' "$top/jougsilver" never.txt
 check "status 1: a common period that is too long" meets 1 "$front/long.listing" '' "$top/jougsilver" long.txt
 check "status 2: an empty sheet" meets 2 "$front/empty.listing" '^jougsilver: empty.sheet: byte 0: refused 1 (' "$top/jougsilver" empty.sheet
+refused_table() {
+    (cd "$front" && "$top/scripts/host" range.txt) >"$front/out" 2>"$front/err"
+    [ $? -eq 2 ] && grep -q '^refused 9 at byte 18' "$front/out" && grep -q -x 'host: range.txt:4: refused 9 (.*): task 8 9 7' "$front/err"
+}
+check "status 2: the C host on a refused sheet" refused_table
 for command in jougsilver sheet scripts/host; do
     name=$(basename "$command")
     check "status 3: $command --wrong" meets 3 - "^usage: $name" "$top/$command" --wrong
@@ -62,10 +67,10 @@ for command in jougsilver sheet scripts/host; do
     to_full() { "$top/$command" five.txt >/dev/full; }
     check "status 3: $command writing to a full disk" meets 3 - "^$name: standard output can't be written: " to_full
     to_closed() { "$top/$command" five.txt >&-; }
-    check "status 3: $command writing to a closed output" meets 3 - "^$name: standard output can't be written: " to_closed
+    check "status 3: $command writing to a closed output" meets 3 - "^$name: standard output can't be written: it is closed$" to_closed
     nowhere() { TMPDIR=$front/nowhere "$top/$command" five.txt; }
     check "status 3: $command without room for temporary files" meets 3 - "^$name: no temporary folder" nowhere
-    check "$command --help has the statuses" meets 0 <("$top/$command" -h) '' "$top/$command" --help
+    check "$command -h and --help print the same" meets 0 <("$top/$command" -h) '' "$top/$command" --help
     helps() { "$top/$command" --help | grep -q '^  3  '; }
     check "$command --help names status 3" helps
     help_to_full() { "$top/$command" --help >/dev/full; }
@@ -113,9 +118,11 @@ check "a listing with a line too few is no answer" printing 3 - "$no_answer" 'pr
 check "a listing with a line too many is no answer" printing 3 - "$no_answer" 'printf "1 accepted 2 0 8\nend 0\n"'
 check "a listing whose last line is cut is no answer" printing 3 - "$no_answer" 'printf "1 accepted 2 0 8\nend 1"'
 check "lines after the end are no answer" printing 3 - "$no_answer" 'printf "end 0\n1 accepted 2 0 8\n"'
+check "half a line after the end is no answer" printing 3 - "$no_answer" 'printf "end 0\n1 acc"'
 check "a refusal among lines is no answer" printing 3 - "$no_answer" 'printf "1 accepted 2 0 8\nrefused 1 0\n"'
 check "lines after a refusal are no answer" printing 3 - "$no_answer" 'printf "refused 1 0\nend 0\n"'
 check "a line of unknown form is no answer" printing 3 - "$no_answer" 'printf "1 perhaps\nend 1\n"'
+check "a line of unknown form that isn't counted is no answer" printing 3 - "$no_answer" 'printf "perhaps\nend 0\n"'
 check "no output is no answer" printing 3 - "$no_answer" ':'
 check "a program that fails gives no answer" printing 3 - "$no_answer" 'printf "end 0\n"; exit 1'
 check "a program that is killed gives no answer" printing 3 - "$no_answer" 'printf "end 0\n"; kill -9 $$'
@@ -214,7 +221,7 @@ check "two at once: the second waits, says so, and both answer" waits
 orphaned() {
     fresh_repo
     printf 'sleep 60\n' >"$front/does"
-    PATH=$front/bin:$PATH setsid "$front/repo/jougsilver" "$samples/five.sheet" >/dev/null 2>&1 &
+    TMPDIR=$front PATH=$front/bin:$PATH setsid "$front/repo/jougsilver" "$samples/five.sheet" >/dev/null 2>&1 &
     local holder=$!
     called_at_last || return
     kill -s KILL -- "-$holder"
@@ -305,6 +312,10 @@ check "a missing end leads back to the last record" meets 2 "$front/endless.list
 printf 'refused 14 0\n' >"$front/big.listing"
 # 14 + 16 · 16 = 270 bytes a component of 17 lines: byte 65,536 is 196 in the 243rd, in its 12th task
 check "a sheet that is too long leads back to the first line too many" meets 2 "$front/big.listing" "^jougsilver: big.txt:$((242 * 17 + 13)): refused 14 (.*): task 8 2 8$" "$top/jougsilver" big.txt
+endless_bytes() { "$top/jougsilver" </dev/zero; }
+check "bytes without end are refused" meets 2 "$front/big.listing" '^jougsilver: standard input: byte 0: refused 14 (more than 65,536 bytes)$' endless_bytes
+endless_text() { yes '#' | "$top/sheet"; }
+check "a text without end is an error" meets 3 - '^sheet: standard input is longer than 16777216 bytes' endless_text
 for place in 0 17 18 33 34 39; do
     case $place in 0 | 17) line='1: component 1 stated 6 2 4' ;; 18 | 33) line='4: task 8 9 7' ;; *) line='5: end 1' ;; esac
     echo "$line" >"$front/line"

@@ -52,7 +52,7 @@ listed() { # SEED COUNT
 }
 
 # A C program that makes the calls of a file.
-build_host() { rt staticlib jougsilver && host_compiler -O2 -o target/host tests/host.c target/staticlib/libjougsilver.a; }
+build_host() { ready archive && host_compiler -O2 -o target/host tests/host.c "${kept[archive]}"; }
 hosted() { # CALLS
     "$second" answer <"$1" >"$work/second" && ${emulator:+"$emulator"} target/host <"$1" >"$work/hosted" && same "$work/second" "$work/hosted"
 }
