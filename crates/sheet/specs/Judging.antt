@@ -37,21 +37,33 @@ ended st = refuse refusal.none st
 unfoldable pub opened : ℕ → State
 opened n = cond (ltb most-bytes n) (refuse refusal.sheet start) start
 
--- the walk goes on, unless a number of the record was refused
-unfoldable pub ranged : ℕ → State → State → State
-ranged n st next = cond (eqb n refusal.none) next (refuse n st)
+-- a component record (RULES 13): too many components, then a number that does not rise, then its ranges, a capacity that is asked taken as 0
+unfoldable pub headRefusal : State → Head → ℕ
+headRefusal st h =
+    cond (leb most-components (st .count)) refusal.components
+    (cond (ltb (h .number) (st .lowest)) refusal.number
+    (interfaceRefusal (interface (h .period .0) (unitsOf (h .capacity)) (h .deadline .0))))
 
--- the ranges of an interface (RULES 2), a capacity that is asked taken as 0
-unfoldable pub headRefusal : Head → ℕ
-headRefusal h = interfaceRefusal (interface (h .period .0) (unitsOf (h .capacity)) (h .deadline .0))
+-- a task record (RULES 13): no component before it, then too many tasks, then its ranges
+unfoldable pub standingRefusal : State → Task → ℕ
+standingRefusal st k =
+    cond (eqb (st .count) 0) refusal.no-component
+    (cond (leb most-tasks (st .tasks)) refusal.tasks
+    (taskRefusal k))
 
--- component numbers rise strictly (RULES 10)
-unfoldable pub numberRefusal : ℕ → ℕ → ℕ
-numberRefusal number lowest = cond (ltb number lowest) refusal.number refusal.none
+-- the end record: its count is that of the components, and its bytes are all that are left
+unfoldable pub endingRefusal : State → ℕ → ℕ → ℕ
+endingRefusal st count left =
+    cond (eqb count (st .count))
+    (cond (eqb left (sizeOf (EndRecord count))) refusal.none refusal.end)
+    refusal.end
 
--- of two refusals, the one that comes first in the order of the rules
-unfoldable pub earlier : ℕ → ℕ → ℕ
-earlier first second = cond (eqb first refusal.none) second first
+-- of one record, with so many bytes left from its first on; where none was read, the refusal is the one of its layout
+unfoldable pub recordRefusal : State → Record → ℕ → ℕ
+recordRefusal st (ComponentRecord h) left = headRefusal st h
+recordRefusal st (TaskRecord k) left = standingRefusal st k
+recordRefusal st (EndRecord count) left = endingRefusal st count left
+recordRefusal st (NoRecord n) left = n
 
 -- behind a component record: one component more, without tasks, and the next number is at least one more
 unfoldable pub afterHead : State → Head → State
@@ -65,12 +77,6 @@ afterHead st h =
       tasks = 0;
     }
 
--- a component record (RULES 13): too many components, then its number, then its ranges
-unfoldable pub judgedHead : State → Head → State
-judgedHead st h =
-    cond (leb most-components (st .count)) (refuse refusal.components st)
-    (ranged (earlier (numberRefusal (h .number) (st .lowest)) (headRefusal h)) st (afterHead st h))
-
 -- behind a task record: the last component has one task more
 unfoldable pub afterTask : State → Task → State
 afterTask st k =
@@ -83,23 +89,13 @@ afterTask st k =
       tasks = st .tasks + 1;
     }
 
--- a task record (RULES 13): no component before it, then too many tasks, then its ranges
-unfoldable pub judgedTask : State → Task → State
-judgedTask st k =
-    cond (eqb (st .count) 0) (refuse refusal.no-component st)
-    (cond (leb most-tasks (st .tasks)) (refuse refusal.tasks st)
-    (ranged (taskRefusal k) st (afterTask st k)))
+-- behind a record that is taken; the end record ends the walk
+unfoldable pub after : State → Record → State
+after st (ComponentRecord h) = afterHead st h
+after st (TaskRecord k) = afterTask st k
+after st (EndRecord count) = ended st
+after st (NoRecord n) = ended st
 
--- the end record: its count is that of the components, and its bytes are all that are left
-unfoldable pub judgedEnd : State → ℕ → ℕ → State
-judgedEnd st count left =
-    cond (eqb count (st .count))
-    (cond (eqb left (sizeOf (EndRecord count))) (ended st) (refuse refusal.end st))
-    (refuse refusal.end st)
-
--- one record, with so many bytes left from its first on; where none was read, the refusal is the one of its layout
+-- a record is taken, or refused where it begins
 unfoldable pub judged : State → Record → ℕ → State
-judged st (ComponentRecord h) left = judgedHead st h
-judged st (TaskRecord k) left = judgedTask st k
-judged st (EndRecord count) left = judgedEnd st count left
-judged st (NoRecord n) left = refuse n st
+judged st r left = cond (eqb (recordRefusal st r left) refusal.none) (after st r) (refuse (recordRefusal st r left) st)

@@ -13,7 +13,7 @@ ghost use mathlib.Core.Path.{_≡_};
 ghost use Prim.Native.Nat.{_+_, _≤_, _<_};
 ghost use Rattle.budget.specs.Component.{unitsOf};
 ghost use Rattle.record.specs.Layout.{headSize, sizeOf};
-ghost use Rattle.sheet.specs.Judging.{refuse, opened, ranged, numberRefusal, earlier, headRefusal, afterHead, afterTask, judgedHead, judgedTask, judgedEnd, judged};
+ghost use Rattle.sheet.specs.Judging.{refuse, opened, headRefusal, standingRefusal, endingRefusal, recordRefusal, afterHead, afterTask, judged};
 
 // Most bytes of a sheet, and most components.
 pub const MOST_BYTES: usize = 65_536;
@@ -62,15 +62,6 @@ pub fn opened(bytes: usize) -> State
     start
 }
 
-fn ranged(number: u16, state: State, next: State) -> State
-    ensures { λ r. ⌜ r ≡ ranged number state next ⌝ }
-{
-    if number == refusal::NONE {
-        return next;
-    }
-    refuse(number, state)
-}
-
 // The length of a component record.
 pub fn head_size(capacity: Capacity) -> usize
     ensures { λ r. ⌜ r ≡ headSize capacity ⌝ }
@@ -105,10 +96,19 @@ fn units_of(capacity: Capacity) -> Units
     }
 }
 
-// The refusal of a component record's numbers; a capacity that is asked is judged as 0.
-fn check_head(head: Head) -> u16
-    ensures { λ r. ⌜ r ≡ headRefusal head ⌝ }
+// The refusals of a component record; a capacity that is asked is judged as 0.
+fn check_head(state: State, head: Head) -> u16
+    ensures { λ r. ⌜ r ≡ headRefusal state head ⌝ }
 {
+    let count = state.count;
+    if MOST_COMPONENTS <= count {
+        return refusal::COMPONENTS;
+    }
+    let number = head.number as u32;
+    let lowest = state.lowest;
+    if number < lowest {
+        return refusal::NUMBER;
+    }
     let period = head.period;
     let deadline = head.deadline;
     let asked = head.capacity;
@@ -118,6 +118,48 @@ fn check_head(head: Head) -> u16
         capacity,
         deadline,
     })
+}
+
+// The refusals of a task record.
+fn check_standing(state: State, task: Task) -> u16
+    ensures { λ r. ⌜ r ≡ standingRefusal state task ⌝ }
+{
+    let count = state.count;
+    if count == 0 {
+        return refusal::NO_COMPONENT;
+    }
+    let tasks = state.tasks;
+    if Table::MOST <= tasks {
+        return refusal::TASKS;
+    }
+    check_task(task)
+}
+
+// The refusals of the end record.
+fn check_ending(state: State, count: u16, left: usize) -> u16
+    ensures { λ r. ⌜ r ≡ endingRefusal state count left ⌝ }
+{
+    let said = count as usize;
+    let counted = state.count;
+    if said != counted {
+        return refusal::END;
+    }
+    if left != 6 {
+        return refusal::END;
+    }
+    refusal::NONE
+}
+
+// The refusal of one record, with so many bytes left from its first on; where none was read, it is the one of its layout.
+fn check_record(state: State, record: Record, left: usize) -> u16
+    ensures { λ r. ⌜ r ≡ recordRefusal state «record» left ⌝ }
+{
+    match record {
+        Record::ComponentRecord(head) => check_head(state, head),
+        Record::TaskRecord(task) => check_standing(state, task),
+        Record::EndRecord(count) => check_ending(state, count, left),
+        Record::NoRecord(number) => number,
+    }
 }
 
 fn after_head(state: State, head: Head) -> State
@@ -136,42 +178,6 @@ fn after_head(state: State, head: Head) -> State
     }
 }
 
-// The refusal of a number that is not above the one before.
-fn check_number(number: u16, lowest: u32) -> u16
-    ensures { λ r. ⌜ r ≡ numberRefusal number lowest ⌝ }
-{
-    let number = number as u32;
-    if number < lowest {
-        return refusal::NUMBER;
-    }
-    refusal::NONE
-}
-
-// The refusal that comes first in the order of the rules.
-fn earlier(first: u16, second: u16) -> u16
-    ensures { λ r. ⌜ r ≡ earlier first second ⌝ }
-{
-    if first == refusal::NONE {
-        return second;
-    }
-    first
-}
-
-fn judge_head(state: State, head: Head) -> State
-    requires { ⌜ state .place + sizeOf (Record.ComponentRecord head) ≤ 65_536 ⌝ }
-    ensures { λ r. ⌜ r ≡ judgedHead state head ⌝ }
-{
-    let count = state.count;
-    if MOST_COMPONENTS <= count {
-        return refuse(refusal::COMPONENTS, state);
-    }
-    let rises = check_number(head.number, state.lowest);
-    let range = check_head(head);
-    let refused = earlier(rises, range);
-    let next = after_head(state, head);
-    ranged(refused, state, next)
-}
-
 fn after_task(state: State, task: Task) -> State
     requires { ⌜ (state .place + sizeOf (Record.TaskRecord task) ≤ 65_536) × (state .tasks < 64) ⌝ }
     ensures { λ r. ⌜ r ≡ afterTask state task ⌝ }
@@ -187,45 +193,19 @@ fn after_task(state: State, task: Task) -> State
     }
 }
 
-fn judge_task(state: State, task: Task) -> State
-    requires { ⌜ state .place + sizeOf (Record.TaskRecord task) ≤ 65_536 ⌝ }
-    ensures { λ r. ⌜ r ≡ judgedTask state task ⌝ }
-{
-    let count = state.count;
-    if count == 0 {
-        return refuse(refusal::NO_COMPONENT, state);
-    }
-    let tasks = state.tasks;
-    if Table::MOST <= tasks {
-        return refuse(refusal::TASKS, state);
-    }
-    let next = after_task(state, task);
-    ranged(check_task(task), state, next)
-}
-
-fn judge_end(state: State, count: u16, left: usize) -> State
-    ensures { λ r. ⌜ r ≡ judgedEnd state count left ⌝ }
-{
-    let said = count as usize;
-    let counted = state.count;
-    if said != counted {
-        return refuse(refusal::END, state);
-    }
-    if left != 6 {
-        return refuse(refusal::END, state);
-    }
-    refuse(refusal::NONE, state)
-}
-
-// One record, with so many bytes left from its first on; where none was read, the refusal is the one of its layout.
+// One record against the state so far: it is taken, or refused where it begins.
 pub(crate) fn judge(state: State, record: Record, left: usize) -> State
     requires { ⌜ state .place + sizeOf «record» ≤ 65_536 ⌝ }
     ensures { λ r. ⌜ r ≡ judged state «record» left ⌝ }
 {
+    let refused = check_record(state, record, left);
+    if refused != refusal::NONE {
+        return refuse(refused, state);
+    }
     match record {
-        Record::ComponentRecord(head) => judge_head(state, head),
-        Record::TaskRecord(task) => judge_task(state, task),
-        Record::EndRecord(count) => judge_end(state, count, left),
-        Record::NoRecord(number) => refuse(number, state),
+        Record::ComponentRecord(head) => after_head(state, head),
+        Record::TaskRecord(task) => after_task(state, task),
+        Record::EndRecord(_) => refuse(refusal::NONE, state),
+        Record::NoRecord(_) => refuse(refusal::NONE, state),
     }
 }

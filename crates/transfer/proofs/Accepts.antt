@@ -20,7 +20,7 @@ use Rattle.record.specs.declared.layout.Record.the-variants.{ComponentRecord, T
 use Rattle.record.specs.Layout.{headBytes, taskBytes, endBytes, sizeOf}
 use Rattle.record.proofs.RoundRecord.{head, head-back, task-back, end-back}
 use Rattle.sheet.specs.declared.judging.State.{State}
-use Rattle.sheet.specs.Judging.{refuse, ended, ranged, numberRefusal, earlier, headRefusal, afterHead, judgedHead, afterTask, judgedTask, judgedEnd, judged}
+use Rattle.sheet.specs.Judging.{refuse, ended, headRefusal, standingRefusal, endingRefusal, recordRefusal, afterHead, afterTask, after, judged}
 use Rattle.sheet.specs.Walk.{step, walk, edge}
 use Rattle.sheet.proofs.JudgingLaws.{orderly}
 use Rattle.sheet.proofs.WalkLaws.{walk-on, walk-stopped, edge-on, edge-here, edge-cases, edge-stopped, step-advances}
@@ -49,7 +49,7 @@ module _ (s : List ℕ) where
   behind p a tail e = sym (drop-drop (length a) p s) ∙ (ap (drop (length a)) e ∙ drop-at a tail (length a) refl)
 
   task-step : (p count lowest tasks : ℕ) (k : Task) (tail : List ℕ) → 1 ≤ count → tasks < 64 → validTask k ≡ true → drop p s ≡ taskBytes k ++ tail → step judged s (on p count lowest tasks) ≡ on (p + length (taskBytes k)) count lowest (tasks + 1)
-  unfolding step judged judgedTask ranged afterTask taskRefusal
+  unfolding step judged recordRefusal standingRefusal after afterTask taskRefusal
   task-step p count lowest tasks k tail one few v e =
       let w = valid-task k v in
       let t : T k < 256 ^ 4 = omega arith in
@@ -60,7 +60,7 @@ module _ (s : List ℕ) where
 
   head-step : (p count lowest tasks number period : ℕ) (c : Capacity) (deadline : ℕ) (tail : List ℕ) → count < 256 → lowest ≤ number → number < 65_536 → validInterface (interface period (unitsOf c) deadline) ≡ true
       → drop p s ≡ headBytes number period c deadline ++ tail → step judged s (on p count lowest tasks) ≡ on (p + length (headBytes number period c deadline)) (count + 1) (number + 1) 0
-  unfolding step judged judgedHead numberRefusal earlier headRefusal ranged afterHead interfaceRefusal
+  unfolding step judged recordRefusal headRefusal after afterHead interfaceRefusal
   head-step p count lowest tasks number period c deadline tail few low fits v e =
       let w = valid-interface (interface period (unitsOf c) deadline) v in
       let g : period < 256 ^ 4 = omega arith in
@@ -70,7 +70,7 @@ module _ (s : List ℕ) where
       (ap (λ (n : ℕ). on (p + n) (count + 1) (number + 1) 0) (head-size number period c deadline))
 
   end-step : (p count lowest tasks : ℕ) → count ≤ 256 → drop p s ≡ endBytes count → step judged s (on p count lowest tasks) ≡ ended (on p count lowest tasks)
-  unfolding step judged judgedEnd sizeOf
+  unfolding step judged recordRefusal endingRefusal after sizeOf
   end-step p count lowest tasks few e =
       let f : drop p s ≡ endBytes count ++ [] = e ∙ sym (append-nil (endBytes count)) in
       let l : length s - p ≡ 6 = sym (length-drop p s) ∙ (ap length e ∙ end-length count) in

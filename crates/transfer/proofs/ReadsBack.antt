@@ -1,12 +1,12 @@
 -- The sheet of valid components is accepted with their count, and a reading of each gives the component: its part lies between two edges, which are its bytes, and those are read back by the laws of one record.
 use Prim.Native.Nat.{ℕ, zero, suc, _+_, _-_, _^_, _≤_, _<_}
-use mathlib.Core.Path.{_≡_, refl, sym, ap, ap₂, _∙_}
+use mathlib.Core.Path.{_≡_, refl, sym, ap, _∙_}
 use mathlib.Core.Bool.{true}
-use mathlib.Core.List.{List, [], _∷_, _++_, append-assoc, append-nil}
+use mathlib.Core.List.{List, [], _∷_, _++_, append-assoc}
 use native.Mathlib.Nat.{zero-add}
 use native.Mathlib.Numerals.{add-one}
 use native.Mathlib.Omega.{arith}
-use lib.ListN.{length, getD, take, drop, length-append}
+use lib.ListN.{length, getD, take, drop}
 use lib.Seq.{drop-at, drop-drop, take-append-seam, drop-append-seam}
 use borrow.Author.Tests.{le-ltb}
 use Rattle.budget.specs.declared.component.Component.{Component}
@@ -16,11 +16,10 @@ use Rattle.budget.specs.Interface.{interface}
 use Rattle.budget.specs.Task.{T, C, D, validTask, validTasks, tasksOf}
 use Rattle.budget.proofs.Ranges.{in-range}
 use Rattle.budget.proofs.Valid.{valid-task, valid-interface, both}
-use Rattle.record.specs.declared.layout.Record.the-variants.{ComponentRecord, TaskRecord}
+use Rattle.record.specs.declared.layout.Record.the-variants.{TaskRecord}
 use Rattle.record.specs.Layout.{headBytes, taskBytes, endBytes, sizeOf, recordOf}
 use Rattle.record.proofs.RoundRecord.{head, head-back, task-back}
 use Rattle.sheet.specs.declared.check.Checked.{Checked}
-use Rattle.sheet.specs.declared.judging.State.{State}
 use Rattle.sheet.specs.Judging.{most-bytes, start, opened}
 use Rattle.sheet.specs.Check.{walked, checkedOf, check}
 use Rattle.sheet.specs.Contents.{edgeOf}

@@ -1,7 +1,6 @@
 -- The answer and the edges are those of the walk; refused, no edge is told.
 use mathlib.Core.Path.{_≡_, ap, _∙_}
 use borrow.Author.Tests.{eq-eqb, ne-eqb}
-use Rattle.sheet.specs.declared.check.Checked.{Checked}
 use Rattle.sheet.specs.declared.walk.Walked.{Walked}
 use Rattle.sheet.specs.Check.{checkedOf, check}
 use Rattle.sheet.specs.Contents.{noEdges, contentsOf}

@@ -1,65 +1,82 @@
--- Each case hands on what its own judge ensures; the record fits since its size does.
-use Rattle.record.specs.Layout.{sizeOf}
-use Rattle.sheet.specs.Judging.{refuse, judged}
+-- A record that is not refused is taken, each kind in its own case; the record fits since its size does.
+use Rattle.sheet.specs.Judging.{ended, after}
+use Rattle.sheet.proofs.JudgingLaws.{judged-refused, judged-taken, head-fits, task-fits}
 use borrow.Author.Needs.{needs}
 use Rattle.sheet.proofs.judging.judge.Statement.{statement}
 use Rattle.sheet.proofs.judging.judge.Tie as tie
 
-enum-known-record : tie.Need-enum-known-record
-enum-known-record c = search needs
-
-judge-head-requires : tie.Need-judge-head-requires
-unfolding sizeOf
-judge-head-requires c κs = rw (c .before .«record» .given .1) at (c .before .before .before .pre)
-
-enum-known-record-2 : tie.Need-enum-known-record-2
-enum-known-record-2 c = search needs
-
-judge-task-requires : tie.Need-judge-task-requires
-unfolding sizeOf
-judge-task-requires c κs = rw (c .before .record2 .given .1) at (c .before .before .before .pre)
-
-enum-known-record-3 : tie.Need-enum-known-record-3
-enum-known-record-3 c = search needs
-
-judge-end-requires : tie.Need-judge-end-requires
-judge-end-requires c κs = search needs
-
-enum-known-record-4 : tie.Need-enum-known-record-4
-enum-known-record-4 c = search needs
+check-record-requires : tie.Need-check-record-requires
+check-record-requires c κs = search needs
 
 refuse-requires : tie.Need-refuse-requires
 refuse-requires c κs = search needs
 
 returns : tie.Need-returns
-unfolding judged
-returns c = rw (c .before .before .«record» .given .1) (c .judge-head .ensures)
+returns c = let a = c .before .before .before .args in
+    judged-refused (a .state) (a .«record») (a .left) _ (c .before .before .check-record .ensures) (c .before .if1 .taken) _ (c .refuse .ensures)
+
+enum-known-record : tie.Need-enum-known-record
+enum-known-record c = search needs
+
+after-head-requires : tie.Need-after-head-requires
+after-head-requires c κs = let a = c .before .before .before .before .before .args in
+    head-fits (a .state) (a .«record») (a .left) _ (c .before .before .before .before .check-record .ensures) (c .before .before .before .if1 .left) _ (c .before .«record» .given .1) (c .before .before .before .before .before .pre)
+
+enum-known-record-2 : tie.Need-enum-known-record-2
+enum-known-record-2 c = search needs
+
+after-task-requires : tie.Need-after-task-requires
+after-task-requires c κs = let a = c .before .before .before .before .before .args in
+    task-fits (a .state) (a .«record») (a .left) _ (c .before .before .before .before .check-record .ensures) (c .before .before .before .if1 .left) _ (c .before .record2 .given .1) (c .before .before .before .before .before .pre)
+
+enum-told : tie.Need-enum-told
+enum-told c = search needs
+
+refuse-requires-2 : tie.Need-refuse-requires-2
+refuse-requires-2 c κs = search needs
+
+enum-told-2 : tie.Need-enum-told-2
+enum-told-2 c = search needs
+
+refuse-requires-3 : tie.Need-refuse-requires-3
+refuse-requires-3 c κs = search needs
 
 returns-2 : tie.Need-returns-2
-unfolding judged
-returns-2 c = rw (c .before .before .record2 .given .1) (c .judge-task .ensures)
+unfolding after ended
+returns-2 c = let a = c .before .before .before .before .before .before .args in
+    judged-taken (a .state) (a .«record») (a .left) _ (c .before .before .before .before .before .check-record .ensures) (c .before .before .before .before .if1 .left) _ (c .before .before .«record» .given .1) _ (c .after-head .ensures)
 
 returns-3 : tie.Need-returns-3
-unfolding judged
-returns-3 c = rw (c .before .before .record3 .given .1) (c .judge-end .ensures)
+unfolding after ended
+returns-3 c = let a = c .before .before .before .before .before .before .args in
+    judged-taken (a .state) (a .«record») (a .left) _ (c .before .before .before .before .before .check-record .ensures) (c .before .before .before .before .if1 .left) _ (c .before .before .record2 .given .1) _ (c .after-task .ensures)
 
 returns-4 : tie.Need-returns-4
-unfolding judged
-returns-4 c = rw (c .before .before .record4 .given .1) (c .refuse .ensures)
+unfolding after ended
+returns-4 c = let a = c .before .before .before .before .before .args in
+    judged-taken (a .state) (a .«record») (a .left) _ (c .before .before .before .before .check-record .ensures) (c .before .before .before .if1 .left) _ (c .before .enum-told .given .1) _ (c .refuse2 .ensures)
+
+returns-5 : tie.Need-returns-5
+unfolding after ended
+returns-5 c = let a = c .before .before .before .before .before .args in
+    judged-taken (a .state) (a .«record») (a .left) _ (c .before .before .before .before .check-record .ensures) (c .before .before .before .if1 .left) _ (c .before .enum-told2 .given .1) _ (c .refuse3 .ensures)
 
 pub judge-spec : {M : Type 1} → statement M
 judge-spec =
     tie.close
     (tie.spec
-    enum-known-record
-    judge-head-requires
-    enum-known-record-2
-    judge-task-requires
-    enum-known-record-3
-    judge-end-requires
-    enum-known-record-4
+    check-record-requires
     refuse-requires
     returns
+    enum-known-record
+    after-head-requires
+    enum-known-record-2
+    after-task-requires
+    enum-told
+    refuse-requires-2
+    enum-told-2
+    refuse-requires-3
     returns-2
     returns-3
-    returns-4)
+    returns-4
+    returns-5)

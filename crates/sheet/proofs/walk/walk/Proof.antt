@@ -3,7 +3,6 @@ use Prim.Native.Nat.{ℕ}
 use mathlib.Core.List.{List}
 use mathlib.Core.Path.{refl, ap₂}
 use native.Mathlib.Omega.{arith}
-use borrow.Author.Needs.{needs}
 use Rattle.sheet.specs.declared.judging.State.{State}
 use Rattle.sheet.proofs.Walking.{Walking, begun, left, again, counted, falls, over-state, over-edges}
 use Rattle.sheet.proofs.walk.walk.Statement.{statement}

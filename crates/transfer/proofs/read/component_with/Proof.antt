@@ -1,5 +1,4 @@
 -- The record's own numbers, and the tasks of the records behind it.
-use mathlib.Core.Path.{refl}
 use Rattle.transfer.specs.Reading.{withHead, componentFrom}
 use borrow.Author.Needs.{needs}
 use Rattle.transfer.proofs.read.component_with.Statement.{statement}
