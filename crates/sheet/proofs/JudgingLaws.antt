@@ -18,7 +18,7 @@ use Rattle.record.specs.Layout.{headSize, sizeOf}
 use Rattle.record.proofs.Cases.{cases}
 use Rattle.sheet.specs.declared.judging.State.{State}
 use Rattle.sheet.specs.Judging.{most-bytes, start, refuse, ended, opened, headRefusal, standingRefusal, endingRefusal, recordRefusal, afterHead, afterTask, after, judged}
-use Rattle.sheet.specs.Walk.{Orderly}
+use Rattle.sheet.specs.Walk.{Onward, Orderly}
 
 -- a component record is not empty
 pub some-head : (c : Capacity) → 14 ≤ headSize c
@@ -91,59 +91,39 @@ module _ (st : State) (r : Record) (left n : ℕ) (e : n ≡ recordRefusal st r 
   unfolding recordRefusal
   task-fits z k q w = (rw q at w, task-taken st k (sym (ap (λ (x : Record). recordRefusal st x left) q) ∙ (sym e ∙ z)) .few)
 
--- from one state to the next, by a record of so many bytes
-record Onward (size : ℕ) (st next : State) : Type 0 where
-  pub kept : st .place ≤ next .place
-  pub within : next .place ≤ st .place + size
-  pub goes : next .going ≡ true → st .place < next .place
-  pub counts : st .count ≤ next .count
-  pub singly : next .count ≤ st .count + 1
-  pub few : st .count ≤ 256 → next .count ≤ 256
+-- ---- the judging is orderly
 
-refused : (size : ℕ) (st : State) (n : ℕ) → Onward size st (refuse n st)
+refused : (st : State) (n k : ℕ) → st .place ≤ n → Onward n st (refuse k st)
 unfolding refuse
-refused size st n =
-    record { kept = omega arith; within = omega arith; goes = λ e. absurd (false≢true e); counts = omega arith; singly = omega arith; few = λ h. h }
+refused st n k h =
+    record { kept = omega arith; within = h; goes = λ e. absurd (false≢true e); counts = omega arith; singly = omega arith; few = λ l. l }
 
-behind : (st : State) (r : Record) (left : ℕ) → recordRefusal st r left ≡ 0 → Onward (sizeOf r) st (after st r)
+behind : (st : State) (r : Record) (left : ℕ) → sizeOf r ≤ left → recordRefusal st r left ≡ 0 → Onward (st .place + left) st (after st r)
 unfolding recordRefusal after ended sizeOf afterHead afterTask
-behind st (ComponentRecord h) left e =
+behind st (ComponentRecord h) left w e =
     let some = some-head (h .capacity) in
     let t = head-taken st h e in
     record { kept = omega arith; within = omega arith; goes = λ g. omega arith; counts = omega arith; singly = omega arith; few = λ l. omega (arith, t .few) }
-behind st (TaskRecord k) left e =
+behind st (TaskRecord k) left w e =
     record { kept = omega arith; within = omega arith; goes = λ g. omega arith; counts = omega arith; singly = omega arith; few = λ l. l }
-behind st (EndRecord count) left e = refused 6 st 0
-behind st (NoRecord n) left e = refused 0 st 0
-
-onward : (st : State) (r : Record) (left : ℕ) → Onward (sizeOf r) st (judged st r left)
-unfolding judged
-onward st r left =
-    cases (Onward (sizeOf r) st) (eqb (recordRefusal st r left) 0)
-    (λ p. behind st r left (eqb-true (recordRefusal st r left) 0 p))
-    (λ p. refused (sizeOf r) st (recordRefusal st r left))
+behind st (EndRecord count) left w e = refused st (st .place + left) 0 (omega arith)
+behind st (NoRecord n) left w e = refused st (st .place + left) 0 (omega arith)
 
 pub orderly : Orderly judged
-orderly =
-    record {
-      kept = λ st r left. onward st r left .kept;
-      within = λ st r left h. let w = onward st r left .within in omega arith;
-      goes = λ st r left. onward st r left .goes;
-      counts = λ st r left. onward st r left .counts;
-      singly = λ st r left. onward st r left .singly;
-      few = λ st r left. onward st r left .few;
-    }
+unfolding judged
+orderly st r left w =
+    let n : ℕ = recordRefusal st r left in
+    cases (Onward (st .place + left) st) (eqb n 0) (λ p. behind st r left w (eqb-true n 0 p)) (λ p. refused st (st .place + left) n (omega arith))
 
 -- before the first record: a walk that goes on has a sheet that is not too long
 pub record Begins (n : ℕ) (st : State) : Type 0 where
   pub place : st .place ≡ 0
   pub count : st .count ≡ 0
   pub short : st .going ≡ true → n ≤ most-bytes
-  pub long : st .refusal ≡ 0 → n ≤ most-bytes
 
 pub opens : (n : ℕ) → Begins n (opened n)
 unfolding opened refuse start
 opens n =
     cases (Begins n) (ltb most-bytes n)
-    (λ p. record { place = refl; count = refl; short = λ e. absurd (false≢true e); long = λ e. absurd (omega (arith, e)) })
-    (λ p. let h = ltb-false most-bytes n p in record { place = refl; count = refl; short = λ e. h; long = λ e. h })
+    (λ p. record { place = refl; count = refl; short = λ e. absurd (false≢true e) })
+    (λ p. record { place = refl; count = refl; short = λ e. ltb-false most-bytes n p })

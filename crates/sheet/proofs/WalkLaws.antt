@@ -14,7 +14,7 @@ use Rattle.record.specs.Layout.{sizeOf, recordOf}
 use Rattle.record.proofs.Cases.{cases}
 use Rattle.record.proofs.RecordLaws.{size-within}
 use Rattle.sheet.specs.declared.judging.State.{State}
-use Rattle.sheet.specs.Walk.{Judging, step, walk, edge, Orderly}
+use Rattle.sheet.specs.Walk.{Judging, step, walk, edge, Onward, Orderly}
 
 -- what is left of a sheet from a place on, as the code lends it
 pub rest-is : (s : List ℕ) (p : ℕ) → take (length s - p) (drop p s) ≡ drop p s
@@ -32,19 +32,18 @@ module _ (judge : Judging) (more : ℕ) (s : List ℕ) (st : State) where
   unfolding walk
   walk-on e = rw e
 
-  pub edge-on : (k : ℕ) → st .going ≡ true → step judge s st .count ≤ k → edge judge (suc more) s k st ≡ edge judge more s k (step judge s st)
+  edge-step : (k : ℕ) (b : Bool) → st .going ≡ true → leb (step judge s st .count) k ≡ b → edge judge (suc more) s k st ≡ cond b (edge judge more s k (step judge s st)) (st .place)
   unfolding edge
-  edge-on k e h =
+  edge-step k b e h =
       let next = step judge s st in
-      ap (λ (b : Bool). elim b [ true ↦ cond (leb (next .count) k) (edge judge more s k next) (st .place) | false ↦ st .place ]) e
-      ∙ ap (λ (b : Bool). cond b (edge judge more s k next) (st .place)) (le-leb (next .count) k h)
+      ap (λ (g : Bool). elim g [ true ↦ cond (leb (next .count) k) (edge judge more s k next) (st .place) | false ↦ st .place ]) e
+      ∙ ap (λ (l : Bool). cond l (edge judge more s k next) (st .place)) h
+
+  pub edge-on : (k : ℕ) → st .going ≡ true → step judge s st .count ≤ k → edge judge (suc more) s k st ≡ edge judge more s k (step judge s st)
+  edge-on k e h = edge-step k true e (le-leb (step judge s st .count) k h)
 
   pub edge-here : (k : ℕ) → st .going ≡ true → k < step judge s st .count → edge judge (suc more) s k st ≡ st .place
-  unfolding edge
-  edge-here k e h =
-      let next = step judge s st in
-      ap (λ (b : Bool). elim b [ true ↦ cond (leb (next .count) k) (edge judge more s k next) (st .place) | false ↦ st .place ]) e
-      ∙ ap (λ (b : Bool). cond b (edge judge more s k next) (st .place)) (lt-leb (next .count) k h)
+  edge-here k e h = edge-step k false e (lt-leb (step judge s st .count) k h)
 
 pub walk-stopped : (judge : Judging) (more : ℕ) (s : List ℕ) (st : State) → st .going ≡ false → walk judge more s st ≡ st
 unfolding walk
@@ -68,30 +67,12 @@ edge-cases judge more s st k P here on =
     elim-cases P (st .going) (λ g. cases P (leb (step judge s st .count) k) (λ l. on g (leb-true _ _ l)) (λ l. here)) (λ g. here)
 
 module _ (judge : Judging) (o : Orderly judge) (s : List ℕ) where
-  -- from one state to the next
-  pub record Advances (st next : State) : Type 0 where
-    pub kept : st .place ≤ next .place
-    pub within : next .place ≤ length s
-    pub goes : next .going ≡ true → st .place < next .place
-    pub counts : st .count ≤ next .count
-    pub singly : next .count ≤ st .count + 1
-    pub few : st .count ≤ 256 → next .count ≤ 256
-
-  pub step-advances : (st : State) → st .place ≤ length s → Advances st (step judge s st)
+  pub step-advances : (st : State) → st .place ≤ length s → Onward (length s) st (step judge s st)
   unfolding step
   step-advances st h =
-      let r : Record = recordOf (drop (st .place) s) in
-      let left : ℕ = length s - st .place in
       let room = room-of s (st .place) h in
-      let w = o .within st r left (omega arith) in
-      record {
-        kept = o .kept st r left;
-        within = omega arith;
-        goes = o .goes st r left;
-        counts = o .counts st r left;
-        singly = o .singly st r left;
-        few = o .few st r left;
-      }
+      let n : st .place + (length s - st .place) ≡ length s = omega arith in
+      rw n at (o st (recordOf (drop (st .place) s)) (length s - st .place) (omega arith))
 
   pub walk-few : (more : ℕ) (st : State) → st .place ≤ length s → st .count ≤ 256 → walk judge more s st .count ≤ 256
   unfolding walk

@@ -32,11 +32,15 @@ edge judge (suc more) s k st =
       | false ↦ st .place
     ]
 
--- what the walk asks of a judging: it never goes back nor past what is left, goes on only by moving on, and counts components one by one up to the most
-pub record Orderly (judge : Judging) : Type 0 where
-  pub kept : (st : State) (r : Record) (left : ℕ) → st .place ≤ judge st r left .place
-  pub within : (st : State) (r : Record) (left : ℕ) → sizeOf r ≤ left → judge st r left .place ≤ st .place + left
-  pub goes : (st : State) (r : Record) (left : ℕ) → judge st r left .going ≡ true → st .place < judge st r left .place
-  pub counts : (st : State) (r : Record) (left : ℕ) → st .count ≤ judge st r left .count
-  pub singly : (st : State) (r : Record) (left : ℕ) → judge st r left .count ≤ st .count + 1
-  pub few : (st : State) (r : Record) (left : ℕ) → st .count ≤ most-components → judge st r left .count ≤ most-components
+-- from one state to the next, with bytes up to the place n: never back nor past n, going on only by moving on, components counted one by one up to the most
+pub record Onward (n : ℕ) (st next : State) : Type 0 where
+  pub kept : st .place ≤ next .place
+  pub within : next .place ≤ n
+  pub goes : next .going ≡ true → st .place < next .place
+  pub counts : st .count ≤ next .count
+  pub singly : next .count ≤ st .count + 1
+  pub few : st .count ≤ most-components → next .count ≤ most-components
+
+-- what the walk asks of a judging: it leads onward wherever the record lies within what is left
+abbrev pub Orderly : Judging → Type 0
+Orderly judge = (st : State) (r : Record) (left : ℕ) → sizeOf r ≤ left → Onward (st .place + left) st (judge st r left)
