@@ -1,9 +1,9 @@
--- Reading tasks one after the other: those read so far, and those still to be read from the place reached, are all the tasks.
+-- Reading tasks one after the other: those read so far, and those still to be read from the place reached, are all the tasks. And what is read between two edges.
 use Prim.Native.Nat.{ℕ, zero, suc, _+_, _-_, _≤_, _<_}
 use mathlib.Core.Path.{_≡_, refl, sym, ap, ap₂, _∙_}
 use mathlib.Core.List.{List, [], _∷_, _++_, append-nil}
 use native.Mathlib.Omega.{arith}
-use lib.ListN.{length, take, drop, length-append}
+use lib.ListN.{length, getD, take, drop, length-append}
 use lib.Seq.{append-snoc, drop-drop}
 use Rattle.budget.specs.declared.task.Table.{Table}
 use Rattle.budget.specs.declared.task.Task.{Task}
@@ -12,8 +12,13 @@ use Rattle.budget.proofs.TableLaws.{append-returned}
 use Rattle.record.specs.declared.layout.Record.{Record}
 use Rattle.record.specs.declared.layout.Record.the-variants.{TaskRecord}
 use Rattle.record.specs.Layout.{sizeOf, recordOf}
+use Rattle.sheet.specs.declared.check.Checked.{Checked}
+use Rattle.sheet.specs.Check.{check}
+use Rattle.sheet.specs.Contents.{contentsOf}
+use Rattle.sheet.specs.Part.{partCheck}
+use Rattle.sheet.proofs.PartLaws.{part-accepted, part-between}
 use Rattle.sheet.proofs.WalkLaws.{rest-is, room-of}
-use Rattle.transfer.specs.Reading.{taskThen, tasksIn}
+use Rattle.transfer.specs.Reading.{taskThen, tasksIn, componentFrom, reading}
 
 pub record Taking (part : List ℕ) (start : ℕ) (table : Table) (place left : ℕ) : Type 0 where
   pub ks : List Task
@@ -74,3 +79,12 @@ module _ (part : List ℕ) (start : ℕ) where
     unfolding tasksIn
     taken zero w h = ended zero w refl
     taken (suc m) w h = absurd (omega arith)
+
+-- each component of an accepted sheet is the one of the bytes between its two edges, so that one walk serves all readings
+pub read-between : (s : List ℕ) (k : ℕ) → check s .refusal ≡ 0 → k < check s .count
+    → let part = take (getD (contentsOf s .edges) (k + 1) 0 - getD (contentsOf s .edges) k 0) (drop (getD (contentsOf s .edges) k 0) s) in
+    reading s k .component ≡ componentFrom part (recordOf part)
+unfolding reading
+read-between s k e h =
+    let p : partCheck s k .refusal ≡ 0 = ap (λ (x : Checked). x .refusal) (part-accepted s k e h) ∙ e in
+    rw p (ap (λ (l : List ℕ). componentFrom l (recordOf l)) (part-between s k e h))
