@@ -7,7 +7,7 @@ use Rattle.budget.specs.Interface.{interfaceRefusal, validInterface}
 use Rattle.budget.specs.Task.{taskRefusal, validTask}
 use Rattle.sheet.specs.declared.check.Checked.{Checked}
 use Rattle.record.specs.Field.{encode, field}
-use Rattle.record.specs.Layout.{statedBytes, askedBytes, headBytes, taskBytes, endBytes, headSize, statedAt, askedAt, taskAt, ofSize, ofKind, recordOf}
+use Rattle.record.specs.Layout.{headBytes, taskBytes, endBytes, headSize, rowOf, recordWith, ofKind, recordOf}
 use Rattle.sheet.specs.Check.{start, refuse, ended, ranged, numberRefusal, earlier, headRefusal, afterHead, judgedHead, afterTask, judgedTask, judgedEnd, judged, step, walk, checkedOf, check}
 
 abbrev answer : ℕ → ℕ → ℕ → Checked
@@ -18,7 +18,7 @@ unfolding check walk step start judged refuse recordOf checkedOf
 empty = refl
 
 end-alone : check (6 ∷ 0 ∷ 3 ∷ 0 ∷ 0 ∷ 0 ∷ []) ≡ answer 0 0 0
-unfolding check walk step start judged judgedEnd ended refuse recordOf ofKind ofSize field checkedOf
+unfolding check walk step start judged judgedEnd ended refuse recordOf ofKind rowOf recordWith field checkedOf
 end-alone = refl
 
 -- component 1 stated (6, 2, 4) with task (8, 2, 8), component 2 asked with period 6 and deadline 4
@@ -29,9 +29,9 @@ small count =
     ++ (headBytes 2 6 Asked 4 ++ endBytes count))
 
 two : check (small 2) ≡ answer 0 0 2
-unfolding small check walk step start judged judgedHead numberRefusal earlier headRefusal headSize interfaceRefusal validInterface afterHead judgedTask taskRefusal validTask afterTask judgedEnd ended ranged refuse recordOf ofKind ofSize statedAt askedAt taskAt encode field statedBytes askedBytes headBytes taskBytes endBytes checkedOf
+unfolding small check walk step start judged judgedHead numberRefusal earlier headRefusal headSize interfaceRefusal validInterface afterHead judgedTask taskRefusal validTask afterTask judgedEnd ended ranged refuse recordOf ofKind rowOf recordWith encode field headBytes taskBytes endBytes checkedOf
 two = refl
 
 wrong-count : check (small 3) ≡ answer 8 48 0
-unfolding small check walk step start judged judgedHead numberRefusal earlier headRefusal headSize interfaceRefusal validInterface afterHead judgedTask taskRefusal validTask afterTask judgedEnd ended ranged refuse recordOf ofKind ofSize statedAt askedAt taskAt encode field statedBytes askedBytes headBytes taskBytes endBytes checkedOf
+unfolding small check walk step start judged judgedHead numberRefusal earlier headRefusal headSize interfaceRefusal validInterface afterHead judgedTask taskRefusal validTask afterTask judgedEnd ended ranged refuse recordOf ofKind rowOf recordWith encode field headBytes taskBytes endBytes checkedOf
 wrong-count = refl
