@@ -148,6 +148,12 @@ pub fn task_at(rest: &[u8]) -> Task
     requires { ⌜ 16 ≤ length (now rest) ⌝ }
     ensures { λ r. ⌜ r ≡ taskAt (now (rest .entry)) ⌝ }
 {
-    let row = row_of(TASK);
-    task_of(values_at(rest, row))
+    let period = Time(field_at(rest, 4, 4));
+    let work = Units(field_at(rest, 8, 4));
+    let deadline = Time(field_at(rest, 12, 4));
+    Task {
+        period,
+        work,
+        deadline,
+    }
 }
