@@ -32,16 +32,16 @@ pub enum Record {
 }
 
 // The kinds of a sheet.
-pub const STATED: u16 = 1;
+pub(crate) const STATED: u16 = 1;
 
-pub const TASK: u16 = 2;
+pub(crate) const TASK: u16 = 2;
 
-pub const END: u16 = 3;
+pub(crate) const END: u16 = 3;
 
-pub const ASKED: u16 = 4;
+pub(crate) const ASKED: u16 = 4;
 
 // The widths of a kind's fields: length, kind, then what it says; a kind that is not in the list has none.
-pub fn row_of(kind: u16) -> Row
+pub(crate) fn row_of(kind: u16) -> Row
     ensures { λ r. ⌜ r ≡ rowOf kind ⌝ }
 {
     match kind {
@@ -109,6 +109,8 @@ fn record_with(kind: u16, values: Values) -> Record
     }
 }
 
+// The record of a kind. Nothing else calls values_at: a second caller keeps the compiler from building it in here, and halves the
+// speed of reading (measured over a whole sheet).
 fn of_kind(rest: &[u8], kind: u16, size: usize) -> Record
     ensures { λ r. ⌜ r ≡ ofKind (now (rest .entry)) kind size ⌝ }
 {
@@ -128,7 +130,7 @@ fn of_kind(rest: &[u8], kind: u16, size: usize) -> Record
 }
 
 // The record that begins what is left of a sheet. Most records are tasks: their kind goes in as a constant, so that the compiler
-// knows the row.
+// knows the row and reads it without a loop.
 pub fn record_of(rest: &[u8]) -> Record
     ensures { λ r. ⌜ r ≡ recordOf (now (rest .entry)) ⌝ }
 {
