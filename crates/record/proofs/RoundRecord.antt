@@ -17,7 +17,7 @@ use Rattle.record.specs.declared.layout.Record.{Record}
 use Rattle.record.specs.declared.layout.Record.the-variants.{ComponentRecord, TaskRecord, EndRecord, NoRecord}
 use Rattle.record.specs.Field.{encode, field, Bytes}
 use Rattle.record.specs.Row.{rowLength, rowBytes, valuesAt}
-use Rattle.record.specs.Layout.{statedRow, taskRow, endRow, askedRow, rowOf, framed, headBytes, taskBytes, endBytes, recordBytes, headSize, taskOf, taskAt, recordWith, ofKind, recordOf}
+use Rattle.record.specs.Layout.{rowOf, framed, headBytes, taskBytes, endBytes, recordBytes, headSize, recordWith, ofKind, recordOf}
 use Rattle.record.proofs.Cases.{cases}
 use Rattle.record.proofs.FieldLaws.{field-below}
 use Rattle.record.proofs.RowLaws.{Fit, row-length, values-back, bytes-back}
@@ -91,16 +91,11 @@ module _ (kind : ℕ) (ws fields rest : List ℕ) where
 
 -- of each kind
 module _ (rest : List ℕ) where
-  fit-task : (k : Task) → T k < 256 ^ 4 → C k < 256 ^ 4 → D k < 256 ^ 4 → Fit taskRow (16 ∷ 2 ∷ T k ∷ C k ∷ D k ∷ 0 ∷ 0 ∷ 0 ∷ [])
-  fit-task k t c d = (omega arith, (omega arith, (t, (c, (d, (omega arith, (omega arith, (omega arith, (tt)))))))))
-
-  pub task-at-back : (k : Task) → T k < 256 ^ 4 → C k < 256 ^ 4 → D k < 256 ^ 4 → taskAt (taskBytes k ++ rest) ≡ k
-  unfolding taskBytes taskAt
-  task-at-back k t c d = ap taskOf (values-back [] taskRow (16 ∷ 2 ∷ T k ∷ C k ∷ D k ∷ 0 ∷ 0 ∷ 0 ∷ []) rest (fit-task k t c d))
-
   pub task-back : (k : Task) → T k < 256 ^ 4 → C k < 256 ^ 4 → D k < 256 ^ 4 → recordOf (taskBytes k ++ rest) ≡ TaskRecord k
   unfolding rowOf taskBytes recordWith
-  task-back k t c d = record-back 2 (4 ∷ 4 ∷ 4 ∷ 0 ∷ 0 ∷ 0 ∷ []) (T k ∷ C k ∷ D k ∷ 0 ∷ 0 ∷ 0 ∷ []) rest refl (fit-task k t c d)
+  task-back k t c d =
+      record-back 2 (4 ∷ 4 ∷ 4 ∷ 0 ∷ 0 ∷ 0 ∷ []) (T k ∷ C k ∷ D k ∷ 0 ∷ 0 ∷ 0 ∷ []) rest refl
+      (omega arith, (omega arith, (t, (c, (d, (omega arith, (omega arith, (omega arith, tt))))))))
 
   pub end-back : (n : ℕ) → n < 256 ^ 2 → recordOf (endBytes n ++ rest) ≡ EndRecord n
   unfolding rowOf endBytes recordWith

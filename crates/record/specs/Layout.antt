@@ -104,10 +104,6 @@ recordWith kind vs =
     (cond (eqb kind 3) (EndRecord (getD vs 2 0))
     (cond (eqb kind 4) (ComponentRecord (askedOf vs)) (NoRecord refusal.kind))))
 
--- the task that a task record says
-unfoldable pub taskAt : List ℕ → Task
-taskAt s = taskOf (valuesAt taskRow s 0)
-
 -- ---- the record that begins a row of bytes
 
 -- refused in this order (RULES 13): a kind that isn't in the list, a length that isn't the kind's, fewer bytes than that

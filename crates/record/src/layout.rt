@@ -10,9 +10,9 @@ use budget::quantity::Units;
 use budget::refusal;
 use budget::task::Task;
 ghost use mathlib.Core.Path.{_≡_};
-ghost use Prim.Native.Nat.{_≤_, _<_};
-ghost use lib.ListN.{length, getD};
-ghost use Rattle.record.specs.Layout.{rowOf, recordWith, ofKind, recordOf, taskAt, taskOf, statedOf, askedOf};
+ghost use Prim.Native.Nat.{_<_};
+ghost use lib.ListN.{getD};
+ghost use Rattle.record.specs.Layout.{rowOf, recordWith, ofKind, recordOf, taskOf, statedOf, askedOf};
 ghost use Rattle.record.specs.inner.Narrow.{Held};
 
 // What a component record says: the component without its tasks.
@@ -143,19 +143,4 @@ pub fn record_of(rest: &[u8]) -> Record
         return of_kind(rest, TASK, size);
     }
     of_kind(rest, kind, size)
-}
-
-// The task that a task record says.
-pub fn task_at(rest: &[u8]) -> Task
-    requires { ⌜ 16 ≤ length (now rest) ⌝ }
-    ensures { λ r. ⌜ r ≡ taskAt (now (rest .entry)) ⌝ }
-{
-    let period = Time(field_at(rest, 4, 4));
-    let work = Units(field_at(rest, 8, 4));
-    let deadline = Time(field_at(rest, 12, 4));
-    Task {
-        period,
-        work,
-        deadline,
-    }
 }
