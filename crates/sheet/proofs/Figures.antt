@@ -7,7 +7,7 @@ use Rattle.budget.specs.Interface.{interfaceRefusal, validInterface}
 use Rattle.budget.specs.Task.{taskRefusal, validTask}
 use Rattle.sheet.specs.declared.check.Checked.{Checked}
 use Rattle.record.specs.Field.{encode, field}
-use Rattle.record.specs.Layout.{statedBytes, askedBytes, headBytes, taskBytes, endBytes, headSize, sizeOf, statedAt, askedAt, taskAt, ofSize, ofKind, recordOf}
+use Rattle.record.specs.Layout.{headBytes, taskBytes, endBytes, headSize, sizeOf, rowOf, recordWith, ofKind, recordOf}
 use Rattle.sheet.specs.Judging.{start, refuse, ended, opened, headRefusal, standingRefusal, endingRefusal, recordRefusal, afterHead, afterTask, after, judged}
 use Rattle.sheet.specs.Walk.{step, walk, edge}
 use Rattle.sheet.specs.Check.{walked, checkedOf, check}
@@ -21,7 +21,7 @@ unfolding check walked walk step opened start judged recordRefusal refuse record
 empty = refl
 
 end-alone : check (6 ∷ 0 ∷ 3 ∷ 0 ∷ 0 ∷ 0 ∷ []) ≡ answer 0 0 0
-unfolding check walked walk step opened start judged recordRefusal after endingRefusal sizeOf ended refuse recordOf ofKind ofSize field checkedOf
+unfolding check walked walk step opened start judged recordRefusal after endingRefusal sizeOf ended refuse recordOf ofKind rowOf recordWith field checkedOf
 end-alone = refl
 
 -- component 1 stated (6, 2, 4) with task (8, 2, 8), component 2 asked with period 6 and deadline 4
@@ -32,13 +32,13 @@ small count =
     ++ (headBytes 2 6 Asked 4 ++ endBytes count))
 
 two : check (small 2) ≡ answer 0 0 2
-unfolding small check walked walk step opened start judged recordRefusal after headRefusal sizeOf headSize interfaceRefusal validInterface afterHead standingRefusal taskRefusal validTask afterTask endingRefusal ended refuse recordOf ofKind ofSize statedAt askedAt taskAt encode field statedBytes askedBytes headBytes taskBytes endBytes checkedOf
+unfolding small check walked walk step opened start judged recordRefusal after headRefusal sizeOf headSize interfaceRefusal validInterface afterHead standingRefusal taskRefusal validTask afterTask endingRefusal ended refuse recordOf ofKind rowOf recordWith encode field headBytes taskBytes endBytes checkedOf
 two = refl
 
 wrong-count : check (small 3) ≡ answer 8 48 0
-unfolding small check walked walk step opened start judged recordRefusal after headRefusal sizeOf headSize interfaceRefusal validInterface afterHead standingRefusal taskRefusal validTask afterTask endingRefusal ended refuse recordOf ofKind ofSize statedAt askedAt taskAt encode field statedBytes askedBytes headBytes taskBytes endBytes checkedOf
+unfolding small check walked walk step opened start judged recordRefusal after headRefusal sizeOf headSize interfaceRefusal validInterface afterHead standingRefusal taskRefusal validTask afterTask endingRefusal ended refuse recordOf ofKind rowOf recordWith encode field headBytes taskBytes endBytes checkedOf
 wrong-count = refl
 
 edges : edgeOf (small 2) 0 ∷ edgeOf (small 2) 1 ∷ edgeOf (small 2) 2 ∷ [] ≡ 0 ∷ 34 ∷ 48 ∷ []
-unfolding small edgeOf edge step opened start judged recordRefusal after headRefusal sizeOf headSize interfaceRefusal validInterface afterHead standingRefusal taskRefusal validTask afterTask endingRefusal ended refuse recordOf ofKind ofSize statedAt askedAt taskAt encode field statedBytes askedBytes headBytes taskBytes endBytes
+unfolding small edgeOf edge step opened start judged recordRefusal after headRefusal sizeOf headSize interfaceRefusal validInterface afterHead standingRefusal taskRefusal validTask afterTask endingRefusal ended refuse recordOf ofKind rowOf recordWith encode field headBytes taskBytes endBytes
 edges = refl
