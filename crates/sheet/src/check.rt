@@ -1,7 +1,6 @@
 // What a sheet is answered: its count of components, or its refusal and the byte where the refused record began.
 pub use crate::judging::MOST_COMPONENTS;
 use crate::judging::State;
-pub use crate::judging::head_size;
 use crate::walk::walk;
 use budget::refusal;
 ghost use mathlib.Core.Path.{_≡_};

@@ -9,10 +9,11 @@ use budget::task::Task;
 use budget::task::check_task;
 use record::layout::Head;
 use record::layout::Record;
+use record::write::size_of;
 ghost use mathlib.Core.Path.{_≡_};
 ghost use Prim.Native.Nat.{_+_, _≤_, _<_};
 ghost use Rattle.budget.specs.Component.{unitsOf};
-ghost use Rattle.record.specs.Layout.{headSize, sizeOf};
+ghost use Rattle.record.specs.Layout.{sizeOf};
 ghost use Rattle.sheet.specs.Judging.{refuse, opened, headRefusal, standingRefusal, endingRefusal, recordRefusal, afterHead, afterTask, judged};
 
 // Most bytes of a sheet, and most components.
@@ -60,31 +61,6 @@ pub fn opened(bytes: usize) -> State
         return refuse(refusal::SHEET, start);
     }
     start
-}
-
-// The length of a component record.
-pub fn head_size(capacity: Capacity) -> usize
-    ensures { λ r. ⌜ r ≡ headSize capacity ⌝ }
-{
-    match capacity {
-        Capacity::Stated(_) => 18,
-        Capacity::Asked => 14,
-    }
-}
-
-// The length of a record.
-pub fn size_of(record: Record) -> usize
-    ensures { λ r. ⌜ r ≡ sizeOf «record» ⌝ }
-{
-    match record {
-        Record::ComponentRecord(head) => {
-            let capacity = head.capacity;
-            head_size(capacity)
-        }
-        Record::TaskRecord(_) => 16,
-        Record::EndRecord(_) => 6,
-        Record::NoRecord(_) => 0,
-    }
 }
 
 fn units_of(capacity: Capacity) -> Units

@@ -8,7 +8,7 @@ use budget::task::no_tasks;
 use record::layout::Head;
 use record::layout::Record;
 use record::layout::record_of;
-use sheet::judging::size_of;
+use record::write::size_of;
 use sheet::part::locate;
 ghost use mathlib.Core.Path.{_≡_};
 ghost use Prim.Native.Nat.{_≤_};
