@@ -15,7 +15,7 @@ use Rattle.judge.specs.declared.answer.Verdict.the-variants as Variant
 use Rattle.judge.specs.Judged.{codeOf, instantOf, verdictAnswer}
 use Rattle.judge.specs.Margin.{marginOf, marginInstantOf, marginAnswer}
 use Rattle.judge.specs.Signed.{signedBits}
-use Rattle.transfer.specs.declared.reply.Reply.{Reply}
+use Rattle.record.specs.declared.reply.Reply.{Reply}
 use Rattle.transfer.specs.Reply.{replyBytes}
 use Rattle.transfer.specs.Writing.{roomRefusal}
 

@@ -1,8 +1,8 @@
 -- What holds for fields of every width: a number below 256 to the width is read back from its bytes, and the bytes that stand in a field are those of its number.
 use Prim.Native.Nat.{ℕ, zero, suc, _+_, _*_, _/_, _%_, _^_, _≤_, _<_}
 use mathlib.Core.Path.{_≡_, refl, sym, ap, ap₂, _∙_}
-use mathlib.Core.List.{List, _∷_, _++_}
-use native.Mathlib.Nat.{pow-suc}
+use mathlib.Core.List.{List, [], _∷_, _++_}
+use native.Mathlib.Nat.{pow-suc, zero-add, suc-add}
 use native.Mathlib.Numerals.{add-one}
 use native.Mathlib.Omega.{arith}
 use lib.ListN.{length, getD, take, drop, take-append-drop}
@@ -16,6 +16,16 @@ field-shift b s at zero = refl
 field-shift b s at (suc n) =
     ap (λ (i : ℕ). getD s at 0 + 256 * field (b ∷ s) i n) (add-one (suc at))
     ∙ ap (λ (x : ℕ). getD s at 0 + 256 * x) (field-shift b s (suc at) n ∙ ap (λ (i : ℕ). field s i n) (sym (add-one at)))
+
+-- nor any row of bytes
+pub field-past : (a s : List ℕ) (at n : ℕ) → field (a ++ s) (length a + at) n ≡ field s at n
+field-past [] s at n = rw zero-add
+field-past (b ∷ a) s at n = rw suc-add (field-shift b (a ++ s) (length a + at) n ∙ field-past a s at n)
+
+pub length-encode : (n x : ℕ) → length (encode n x) ≡ n
+unfolding encode
+length-encode zero x = refl
+length-encode (suc n) x = ap suc (length-encode n (x / 256))
 
 pub decode-encode : (n x : ℕ) (rest : List ℕ) → x < 256 ^ n → field (encode n x ++ rest) 0 n ≡ x
 unfolding field encode

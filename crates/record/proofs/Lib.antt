@@ -1,4 +1,9 @@
 pub mod Cases
-pub mod RecordLaws
 pub mod FieldLaws
+pub mod FieldLoops
+pub mod KindLaws
+pub mod RowLaws
+pub mod RowLoops
+pub mod StoreLaws
+pub mod RecordLaws
 pub mod RoundRecord

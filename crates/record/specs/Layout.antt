@@ -1,8 +1,8 @@
--- "Records: length (2 bytes, of the whole record), kind (2 bytes), fields", and the table of kinds (01, "The sheet").
+-- The records of a sheet (RULES 10): length, kind and fields. Each kind is a row of widths, and says what its values are.
 use Prim.Native.Nat.{ℕ}
 use mathlib.Core.Bool.{cond}
-use mathlib.Core.List.{List, [], _++_}
-use lib.ListN.{length}
+use mathlib.Core.List.{List, [], _∷_}
+use lib.ListN.{length, getD}
 use lib.Dec.{ltb, eqb}
 use Rattle.budget.specs.declared.component.Capacity.{Capacity}
 use Rattle.budget.specs.declared.component.Capacity.the-variants.{Stated, Asked}
@@ -12,26 +12,49 @@ use Rattle.budget.specs.Task.{T, C, D}
 use Rattle.record.specs.declared.layout.Head.{Head}
 use Rattle.record.specs.declared.layout.Record.{Record}
 use Rattle.record.specs.declared.layout.Record.the-variants.{ComponentRecord, TaskRecord, EndRecord, NoRecord}
-use Rattle.record.specs.Field.{encode, field}
+use Rattle.record.specs.Field.{field}
+use Rattle.record.specs.Row.{rowLength, rowBytes, valuesAt}
 
--- the bytes of a component record: kind 1 and 18 bytes where the capacity is stated, kind 4 and 14 bytes where it is asked
-unfoldable pub statedBytes : ℕ → ℕ → ℕ → ℕ → List ℕ
-statedBytes number period capacity deadline =
-    encode 2 18 ++ (encode 2 1 ++ (encode 2 number ++ (encode 4 period ++ (encode 4 capacity ++ encode 4 deadline))))
+-- ---- the kinds, each a row of widths: length, kind, then the fields; 0 fills up
 
-unfoldable pub askedBytes : ℕ → ℕ → ℕ → List ℕ
-askedBytes number period deadline =
-    encode 2 14 ++ (encode 2 4 ++ (encode 2 number ++ (encode 4 period ++ encode 4 deadline)))
+abbrev pub statedRow : List ℕ
+statedRow = 2 ∷ 2 ∷ 2 ∷ 4 ∷ 4 ∷ 4 ∷ 0 ∷ 0 ∷ []
+
+abbrev pub taskRow : List ℕ
+taskRow = 2 ∷ 2 ∷ 4 ∷ 4 ∷ 4 ∷ 0 ∷ 0 ∷ 0 ∷ []
+
+abbrev pub endRow : List ℕ
+endRow = 2 ∷ 2 ∷ 2 ∷ 0 ∷ 0 ∷ 0 ∷ 0 ∷ 0 ∷ []
+
+abbrev pub askedRow : List ℕ
+askedRow = 2 ∷ 2 ∷ 2 ∷ 4 ∷ 4 ∷ 0 ∷ 0 ∷ 0 ∷ []
+
+-- a kind that isn't in the list has no fields
+abbrev pub noRow : List ℕ
+noRow = 0 ∷ 0 ∷ 0 ∷ 0 ∷ 0 ∷ 0 ∷ 0 ∷ 0 ∷ []
+
+unfoldable pub rowOf : ℕ → List ℕ
+rowOf kind =
+    cond (eqb kind 1) statedRow
+    (cond (eqb kind 2) taskRow
+    (cond (eqb kind 3) endRow
+    (cond (eqb kind 4) askedRow noRow)))
+
+-- ---- the bytes of each record
+
+-- a record of a kind: the length that its row gives it, its kind, its fields
+abbrev pub framed : ℕ → List ℕ → List ℕ → List ℕ
+framed kind row fields = rowBytes row (rowLength row ∷ kind ∷ fields)
 
 unfoldable pub headBytes : ℕ → ℕ → Capacity → ℕ → List ℕ
-headBytes number period (Stated u) deadline = statedBytes number period (u .0) deadline
-headBytes number period Asked deadline = askedBytes number period deadline
+headBytes number period (Stated u) deadline = framed 1 statedRow (number ∷ period ∷ u .0 ∷ deadline ∷ 0 ∷ 0 ∷ [])
+headBytes number period Asked deadline = framed 4 askedRow (number ∷ period ∷ deadline ∷ 0 ∷ 0 ∷ 0 ∷ [])
 
 unfoldable pub taskBytes : Task → List ℕ
-taskBytes k = encode 2 16 ++ (encode 2 2 ++ (encode 4 (T k) ++ (encode 4 (C k) ++ encode 4 (D k))))
+taskBytes k = framed 2 taskRow (T k ∷ C k ∷ D k ∷ 0 ∷ 0 ∷ 0 ∷ [])
 
 unfoldable pub endBytes : ℕ → List ℕ
-endBytes count = encode 2 6 ++ (encode 2 3 ++ encode 2 count)
+endBytes count = framed 3 endRow (count ∷ 0 ∷ 0 ∷ 0 ∷ 0 ∷ 0 ∷ [])
 
 unfoldable pub recordBytes : Record → List ℕ
 recordBytes (ComponentRecord h) = headBytes (h .number) (h .period .0) (h .capacity) (h .deadline .0)
@@ -41,53 +64,56 @@ recordBytes (NoRecord n) = []
 
 -- the lengths of the records
 unfoldable pub headSize : Capacity → ℕ
-headSize (Stated u) = 18
-headSize Asked = 14
+headSize (Stated u) = rowLength statedRow
+headSize Asked = rowLength askedRow
 
 unfoldable pub sizeOf : Record → ℕ
 sizeOf (ComponentRecord h) = headSize (h .capacity)
-sizeOf (TaskRecord k) = 16
-sizeOf (EndRecord count) = 6
+sizeOf (TaskRecord k) = rowLength taskRow
+sizeOf (EndRecord count) = rowLength endRow
 sizeOf (NoRecord n) = 0
 
--- what the bytes say, of a record of each kind
-unfoldable pub statedAt : List ℕ → Head
-statedAt s =
+-- ---- what the values of a row say, of a record of each kind
+
+abbrev pub statedOf : List ℕ → Head
+statedOf vs =
     record {
-      number = field s 4 2;
-      period = record { 0 = field s 6 4 };
-      capacity = Stated (record { 0 = field s 10 4 });
-      deadline = record { 0 = field s 14 4 };
+      number = getD vs 2 0;
+      period = record { 0 = getD vs 3 0 };
+      capacity = Stated (record { 0 = getD vs 4 0 });
+      deadline = record { 0 = getD vs 5 0 };
     }
 
-unfoldable pub askedAt : List ℕ → Head
-askedAt s =
+abbrev pub askedOf : List ℕ → Head
+askedOf vs =
     record {
-      number = field s 4 2;
-      period = record { 0 = field s 6 4 };
+      number = getD vs 2 0;
+      period = record { 0 = getD vs 3 0 };
       capacity = Asked;
-      deadline = record { 0 = field s 10 4 };
+      deadline = record { 0 = getD vs 4 0 };
     }
 
-unfoldable pub taskAt : List ℕ → Task
-taskAt s = record { period = record { 0 = field s 4 4 }; work = record { 0 = field s 8 4 }; deadline = record { 0 = field s 12 4 } }
+abbrev pub taskOf : List ℕ → Task
+taskOf vs = record { period = record { 0 = getD vs 2 0 }; work = record { 0 = getD vs 3 0 }; deadline = record { 0 = getD vs 4 0 } }
 
--- "3, 1 (cut)": the length is the kind's, and so many bytes are left
-unfoldable pub ofSize : List ℕ → ℕ → ℕ → Record → Record
-ofSize s size right r =
-    cond (eqb size right)
-    (cond (ltb (length s) right) (NoRecord refusal.cut) r)
-    (NoRecord refusal.bad-length)
+-- the record of a kind with these values
+unfoldable pub recordWith : ℕ → List ℕ → Record
+recordWith kind vs =
+    cond (eqb kind 1) (ComponentRecord (statedOf vs))
+    (cond (eqb kind 2) (TaskRecord (taskOf vs))
+    (cond (eqb kind 3) (EndRecord (getD vs 2 0))
+    (cond (eqb kind 4) (ComponentRecord (askedOf vs)) (NoRecord refusal.kind))))
 
--- "2": the kind is in the list
+-- ---- the record that begins a row of bytes
+
+-- refused in this order (RULES 13): a kind that isn't in the list, a length that isn't the kind's, fewer bytes than that
 unfoldable pub ofKind : List ℕ → ℕ → ℕ → Record
 ofKind s kind size =
-    cond (eqb kind 1) (ofSize s size 18 (ComponentRecord (statedAt s)))
-    (cond (eqb kind 2) (ofSize s size 16 (TaskRecord (taskAt s)))
-    (cond (eqb kind 3) (ofSize s size 6 (EndRecord (field s 4 2)))
-    (cond (eqb kind 4) (ofSize s size 14 (ComponentRecord (askedAt s)))
-    (NoRecord refusal.kind))))
+    cond (eqb (rowLength (rowOf kind)) 0) (NoRecord refusal.kind)
+    (cond (eqb size (rowLength (rowOf kind)))
+    (cond (ltb (length s) (rowLength (rowOf kind))) (NoRecord refusal.cut) (recordWith kind (valuesAt (rowOf kind) s 0)))
+    (NoRecord refusal.bad-length))
 
--- the record that begins a row of bytes: "1 (under 4 bytes), 2, 3, 1 (cut)"
+-- fewer bytes than a length and a kind are a cut record before all that
 unfoldable pub recordOf : List ℕ → Record
 recordOf s = cond (ltb (length s) 4) (NoRecord refusal.cut) (ofKind s (field s 2 2) (field s 0 2))

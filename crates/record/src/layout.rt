@@ -1,16 +1,19 @@
-// The records of a sheet: length, kind and fields. Reading one judges its layout and none of its values.
-use crate::field::number_at;
-use crate::field::time_at;
+// The records of a sheet (RULES 10): each kind is a row of fields. Reading one judges its layout and none of its values.
+use crate::field::field_at;
+use crate::row::Row;
+use crate::row::Values;
+use crate::row::row_length;
+use crate::row::values_at;
 use budget::component::Capacity;
 use budget::quantity::Time;
 use budget::quantity::Units;
 use budget::refusal;
 use budget::task::Task;
 ghost use mathlib.Core.Path.{_≡_};
-ghost use Prim.Native.Nat.{_≤_};
-ghost use lib.ListN.{length};
-ghost use Rattle.record.specs.Layout.{ofSize, ofKind, recordOf, statedAt, askedAt, taskAt};
-ghost use Rattle.record.specs.Field.{field};
+ghost use Prim.Native.Nat.{_<_};
+ghost use lib.ListN.{getD};
+ghost use Rattle.record.specs.Layout.{rowOf, recordWith, ofKind, recordOf, taskOf, statedOf, askedOf};
+ghost use Rattle.record.specs.inner.Narrow.{Held};
 
 // What a component record says: the component without its tasks.
 pub struct Head {
@@ -28,126 +31,116 @@ pub enum Record {
     NoRecord(u16),
 }
 
-fn stated_at(rest: &[u8]) -> Head
-    requires { ⌜ 18 ≤ length (now rest) ⌝ }
-    ensures { λ r. ⌜ r ≡ statedAt (now (rest .entry)) ⌝ }
+// The kinds of a sheet.
+pub(crate) const STATED: u16 = 1;
+
+pub(crate) const TASK: u16 = 2;
+
+pub(crate) const END: u16 = 3;
+
+pub(crate) const ASKED: u16 = 4;
+
+// The widths of a kind's fields: length, kind, then what it says; a kind that is not in the list has none.
+pub(crate) fn row_of(kind: u16) -> Row
+    ensures { λ r. ⌜ r ≡ rowOf kind ⌝ }
 {
-    let number = number_at(rest, 4);
-    let period = Time(time_at(rest, 6));
-    let capacity = Capacity::Stated(Units(time_at(rest, 10)));
-    let deadline = Time(time_at(rest, 14));
-    Head {
-        number,
-        period,
-        capacity,
-        deadline,
+    match kind {
+        STATED => [2, 2, 2, 4, 4, 4, 0, 0],
+        TASK => [2, 2, 4, 4, 4, 0, 0, 0],
+        END => [2, 2, 2, 0, 0, 0, 0, 0],
+        ASKED => [2, 2, 2, 4, 4, 0, 0, 0],
+        _ => [0, 0, 0, 0, 0, 0, 0, 0],
     }
 }
 
-fn stated(rest: &[u8], size: u16) -> Record
-    ensures { λ r. ⌜ r ≡ ofSize (now (rest .entry)) size 18 (Record.ComponentRecord (statedAt (now (rest .entry)))) ⌝ }
+// A value of a field of 2 bytes.
+fn number(value: u32) -> u16
+    requires { ⌜ value < 65_536 ⌝ }
+    ensures { λ r. ⌜ r ≡ value ⌝ }
 {
-    if size != 18 {
-        return Record::NoRecord(refusal::LENGTH);
-    }
-    if rest.len() < 18 {
-        return Record::NoRecord(refusal::CUT);
-    }
-    Record::ComponentRecord(stated_at(rest))
+    value as u16
 }
 
-fn asked_at(rest: &[u8]) -> Head
-    requires { ⌜ 14 ≤ length (now rest) ⌝ }
-    ensures { λ r. ⌜ r ≡ askedAt (now (rest .entry)) ⌝ }
+fn stated_of(values: Values) -> Head
+    requires { ⌜ getD values 2 0 < 65_536 ⌝ }
+    ensures { λ r. ⌜ r ≡ statedOf values ⌝ }
 {
-    let number = number_at(rest, 4);
-    let period = Time(time_at(rest, 6));
-    let deadline = Time(time_at(rest, 10));
     Head {
-        number,
-        period,
+        number: number(values[2]),
+        period: Time(values[3]),
+        capacity: Capacity::Stated(Units(values[4])),
+        deadline: Time(values[5]),
+    }
+}
+
+fn asked_of(values: Values) -> Head
+    requires { ⌜ getD values 2 0 < 65_536 ⌝ }
+    ensures { λ r. ⌜ r ≡ askedOf values ⌝ }
+{
+    Head {
+        number: number(values[2]),
+        period: Time(values[3]),
         capacity: Capacity::Asked,
-        deadline,
+        deadline: Time(values[4]),
     }
 }
 
-fn asked(rest: &[u8], size: u16) -> Record
-    ensures { λ r. ⌜ r ≡ ofSize (now (rest .entry)) size 14 (Record.ComponentRecord (askedAt (now (rest .entry)))) ⌝ }
+fn task_of(values: Values) -> Task
+    ensures { λ r. ⌜ r ≡ taskOf values ⌝ }
 {
-    if size != 14 {
-        return Record::NoRecord(refusal::LENGTH);
-    }
-    if rest.len() < 14 {
-        return Record::NoRecord(refusal::CUT);
-    }
-    Record::ComponentRecord(asked_at(rest))
-}
-
-// The task that a task record says.
-pub fn task_at(rest: &[u8]) -> Task
-    requires { ⌜ 16 ≤ length (now rest) ⌝ }
-    ensures { λ r. ⌜ r ≡ taskAt (now (rest .entry)) ⌝ }
-{
-    let period = Time(time_at(rest, 4));
-    let work = Units(time_at(rest, 8));
-    let deadline = Time(time_at(rest, 12));
     Task {
-        period,
-        work,
-        deadline,
+        period: Time(values[2]),
+        work: Units(values[3]),
+        deadline: Time(values[4]),
     }
 }
 
-fn task(rest: &[u8], size: u16) -> Record
-    ensures { λ r. ⌜ r ≡ ofSize (now (rest .entry)) size 16 (Record.TaskRecord (taskAt (now (rest .entry)))) ⌝ }
+// The record of a kind with these values.
+fn record_with(kind: u16, values: Values) -> Record
+    requires { ⌜ Held (rowOf kind) values ⌝ }
+    ensures { λ r. ⌜ r ≡ recordWith kind values ⌝ }
 {
-    if size != 16 {
-        return Record::NoRecord(refusal::LENGTH);
+    match kind {
+        STATED => Record::ComponentRecord(stated_of(values)),
+        TASK => Record::TaskRecord(task_of(values)),
+        END => Record::EndRecord(number(values[2])),
+        ASKED => Record::ComponentRecord(asked_of(values)),
+        _ => Record::NoRecord(refusal::KIND),
     }
-    if rest.len() < 16 {
-        return Record::NoRecord(refusal::CUT);
-    }
-    Record::TaskRecord(task_at(rest))
 }
 
-fn end(rest: &[u8], size: u16) -> Record
-    ensures { λ r. ⌜ r ≡ ofSize (now (rest .entry)) size 6 (Record.EndRecord (field (now (rest .entry)) 4 2)) ⌝ }
-{
-    if size != 6 {
-        return Record::NoRecord(refusal::LENGTH);
-    }
-    if rest.len() < 6 {
-        return Record::NoRecord(refusal::CUT);
-    }
-    Record::EndRecord(number_at(rest, 4))
-}
-
-fn of_kind(rest: &[u8], kind: u16, size: u16) -> Record
+// The record of a kind. Nothing else calls values_at: a second caller keeps the compiler from building it in here, and halves the
+// speed of reading (measured over a whole sheet).
+fn of_kind(rest: &[u8], kind: u16, size: usize) -> Record
     ensures { λ r. ⌜ r ≡ ofKind (now (rest .entry)) kind size ⌝ }
 {
-    if kind == 1 {
-        return stated(rest, size);
+    let row = row_of(kind);
+    let length = row_length(row);
+    if length == 0 {
+        return Record::NoRecord(refusal::KIND);
     }
-    if kind == 2 {
-        return task(rest, size);
+    if size != length {
+        return Record::NoRecord(refusal::LENGTH);
     }
-    if kind == 3 {
-        return end(rest, size);
+    if rest.len() < length {
+        return Record::NoRecord(refusal::CUT);
     }
-    if kind == 4 {
-        return asked(rest, size);
-    }
-    Record::NoRecord(refusal::KIND)
+    let values = values_at(rest, row);
+    record_with(kind, values)
 }
 
-// The record that begins what is left of a sheet: "1 (under 4 bytes), 2, 3, 1 (cut)".
+// The record that begins what is left of a sheet. Most records are tasks: their kind goes in as a constant, so that the compiler
+// knows the row and reads it without a loop.
 pub fn record_of(rest: &[u8]) -> Record
     ensures { λ r. ⌜ r ≡ recordOf (now (rest .entry)) ⌝ }
 {
     if rest.len() < 4 {
         return Record::NoRecord(refusal::CUT);
     }
-    let kind = number_at(rest, 2);
-    let size = number_at(rest, 0);
+    let kind = number(field_at(rest, 2, 2));
+    let size = field_at(rest, 0, 2) as usize;
+    if kind == TASK {
+        return of_kind(rest, TASK, size);
+    }
     of_kind(rest, kind, size)
 }

@@ -1,4 +1,4 @@
--- The two round trips of demand 2, stated over what the operations answer: `reading` is what read_component answers, `put` and `close` are what write_component and write_end leave and answer.
+-- The two round trips, stated over what the operations answer (docs/RULES.md, 10 and 11): `reading` is what read_component answers, `put` and `close` are what write_component and write_end leave and answer.
 use Prim.Native.Nat.{ℕ, zero, suc, _+_, _≤_, _<_}
 use mathlib.Core.List.{List, [], _∷_, _++_}
 use mathlib.Core.Path.{_≡_}
@@ -52,13 +52,13 @@ unfoldable pub readings : List ℕ → ℕ → ℕ → List Component
 readings s k zero = []
 readings s k (suc n) = reading s k .component ∷ readings s (suc k) n
 
--- "Accepted sheets read and written back are the same bytes"
+-- an accepted sheet, each of its components read and all written one after the other into a buffer, stands there byte for byte; the buffer is as before behind it
 abbrev pub SameBytes : Type 0
 SameBytes =
     (s : List ℕ) → Bytes s → check s .refusal ≡ refusal.none → (buffer : List ℕ) → length s ≤ length buffer
     → writeAll buffer (readings s 0 (check s .count)) ≡ record { buffer = s ++ drop (length s) buffer; place = length s }
 
--- "the part .. that holds one component's records": the bytes of the component that is read there
+-- a part that is handed back is the bytes of the component that is read at its place
 abbrev pub PartsRead : Type 0
 PartsRead =
     (s : List ℕ) → Bytes s → check s .refusal ≡ refusal.none → (k : ℕ) → k < check s .count → partOf s k ≡ componentBytes (reading s k .component)
@@ -69,12 +69,12 @@ pub record Sound (c : Component) : Type 0 where
   pub number : c .number < 65_536
   pub places : length (c .table .tasks) ≡ most-tasks
 
--- "valid components .. in rising number": each number is at least the lowest allowed
+-- valid components whose numbers rise: each number is at least the lowest allowed
 abbrev pub Rising : ℕ → List Component → Type 0
 Rising lowest [] = Unit {0}
 Rising lowest (c ∷ cs) = (lowest ≤ c .number) × Sound c × Rising (c .number + 1) cs
 
--- a component as it is returned: "zero in what is returned" from the count on
+-- a component as it is returned: its task places are zero from the count on (RULES 2)
 abbrev pub returned : Component → Component
 returned c = withTasks c (tasksOf (c .table))
 
@@ -85,7 +85,7 @@ pub record ReadBack (s : List ℕ) (cs : List Component) : Type 0 where
       → reading s k ≡ record { refusal = refusal.none; place = 0; component = returned (getD cs k refused) }
   pub same : (k : ℕ) → k < length cs → Same (reading s k .component) (getD cs k refused)
 
--- "valid components written in rising number, closed by the right end record, where a sheet can hold them, are read back the same"
+-- valid components whose numbers rise, as many as a sheet can hold, written and closed by the end record with their count, are read back as they were
 abbrev pub SameComponents : Type 0
 SameComponents =
     (cs : List Component) → Rising 0 cs → length cs ≤ most-components → length (sheetBytes cs) ≤ most-bytes

@@ -1,6 +1,6 @@
 -- What the sheet was answered is what the writer is handed.
 use mathlib.Core.Path.{ap}
-use Rattle.transfer.specs.declared.write.Written.{Written}
+use Rattle.record.specs.declared.write.Written.{Written}
 use Rattle.transfer.specs.Writing.{written}
 use borrow.Author.Needs.{needs}
 use Rattle.jougsilver.proofs.jougsilver_check.Statement.{statement}

@@ -3,7 +3,7 @@ use mathlib.Core.Path.{sym, ap, ap₂, _∙_}
 use lib.ListN.{length}
 use Rattle.jougsilver.specs.Answer.{refusalOf, replyOf, replyOn, answerRefusal}
 use Rattle.jougsilver.proofs.AnswerLaws.{refused-as, component-first, unwritten}
-use Rattle.transfer.specs.declared.write.Written.{Written}
+use Rattle.record.specs.declared.write.Written.{Written}
 use Rattle.transfer.specs.Writing.{written}
 use borrow.Author.Needs.{needs}
 use Rattle.jougsilver.proofs.answer.answer.Statement.{statement}

@@ -8,7 +8,7 @@ use Rattle.budget.specs.declared.quantity.Units.{Units}
 use Rattle.judge.specs.Judged.{codeOf, instantOf}
 use Rattle.judge.specs.Signed.{signedBits}
 use Rattle.jougsilver.specs.Answer.{replyOf}
-use Rattle.transfer.specs.declared.reply.Reply.{Reply}
+use Rattle.record.specs.declared.reply.Reply.{Reply}
 use borrow.Author.Needs.{needs}
 use Rattle.jougsilver.proofs.answer.reply_of.Statement.{statement}
 use Rattle.jougsilver.proofs.answer.reply_of.Tie as tie

@@ -1,15 +1,14 @@
 -- The loop's invariant: what is still to be stored, stored onto the buffer as it is now, gives the buffer as it must end.
-use borrow.Author.Needs.{needs}
-use native.Mathlib.Omega.{arith}
 use Prim.Native.Nat.{_-_, _≤_}
-use lib.ListN.{length, length-drop}
+use lib.ListN.{length}
 use Rattle.transfer.proofs.StoreLaws.{Storing, storing-none, storing-more, storing-all}
-use Rattle.sheet.proofs.WalkLaws.{rest-is}
 use Rattle.budget.proofs.Places.{length-mapped}
 use Rattle.budget.specs.Limits.{most-tasks}
 use Rattle.budget.specs.Task.{tasksOf}
 use mathlib.Core.Path.{_≡_, sym}
 use native.Mathlib.Nat.{le-trans, le-of-eq}
+use borrow.Author.Needs.{needs}
+use native.Mathlib.Omega.{arith}
 use Rattle.transfer.proofs.write.write_tasks.Statement.{statement}
 use Rattle.transfer.proofs.write.write_tasks.Tie as tie
 
@@ -29,26 +28,14 @@ loop-holds : tie.Need-loop-holds Inv-loop μ-loop
 loop-holds c = let a = c .before .before .args in
     storing-none (a .buffer .now) (a .at) (a .table .count) (a .table .tasks) (room (c .before .before))
 
-sub-put-task : tie.Need-sub-put-task Inv-loop μ-loop
-sub-put-task c = omega arith
+mul-t12 : tie.Need-mul-t12 Inv-loop μ-loop
+mul-t12 c = omega arith
 
-part-put-task-start : tie.Need-part-put-task-start Inv-loop μ-loop
-part-put-task-start c = omega arith
+array-copy-out-t15 : tie.Need-array-copy-out-t15 Inv-loop μ-loop
+array-copy-out-t15 c = omega arith
 
-part-put-task-end : tie.Need-part-put-task-end Inv-loop μ-loop
-part-put-task-end c = search needs
-
-mul-put-task : tie.Need-mul-put-task Inv-loop μ-loop
-mul-put-task c = omega arith
-
-array-copy-out-put-task : tie.Need-array-copy-out-put-task Inv-loop μ-loop
-array-copy-out-put-task c = omega arith
-
-put-task-requires : tie.Need-put-task-requires Inv-loop μ-loop
-put-task-requires c κs = let l = c .before .before .before .loop in rw (rest-is (l .buffer) (l .place), length-drop) (omega arith)
-
-add-place : tie.Need-add-place Inv-loop μ-loop
-add-place c = omega arith
+write-record-requires : tie.Need-write-record-requires Inv-loop μ-loop
+write-record-requires c κs = search needs
 
 add-i : tie.Need-add-i Inv-loop μ-loop
 add-i c = omega arith
@@ -58,7 +45,8 @@ loop-less c = omega arith
 
 loop-again : tie.Need-loop-again Inv-loop μ-loop
 loop-again c = let a = c .before .before .before .before .before .before .before .before .before .args in let l = c .before .before .before .before .before .before .loop in
-    storing-more (a .buffer .now) (a .at) (a .table .count) (a .table .tasks) (room (c .before .before .before .before .before .before .before .before .before)) (l .buffer) (l .place) (l .i) (l .inv) (c .before .before .put-task .last .0) (c .before .before .before .before .before .loop-test .taken) (omega arith) (c .before .before .put-task .ensures)
+    let e = c .before .before .write-record .ensures in
+    storing-more (a .buffer .now) (a .at) (a .table .count) (a .table .tasks) (room (c .before .before .before .before .before .before .before .before .before)) (l .buffer) (l .place) (l .i) (l .inv) (c .before .before .write-record .last .0) (c .before .before .write-record .result) (c .before .before .before .before .before .loop-test .taken) (omega arith) (e .0) (e .1)
 
 same-length : tie.Need-same-length Inv-loop μ-loop
 same-length c = c .before .loop .inv .long
@@ -75,13 +63,9 @@ write-tasks-spec =
     Inv-loop
     μ-loop
     loop-holds
-    sub-put-task
-    part-put-task-start
-    part-put-task-end
-    mul-put-task
-    array-copy-out-put-task
-    put-task-requires
-    add-place
+    mul-t12
+    array-copy-out-t15
+    write-record-requires
     add-i
     loop-less
     loop-again

@@ -1,0 +1,61 @@
+-- Each record is the definition's, at the comparisons that led there.
+use mathlib.Core.Path.{ap}
+use Rattle.record.specs.declared.layout.Record.the-variants.{ComponentRecord, TaskRecord, EndRecord}
+use Rattle.budget.proofs.Tests.{tests}
+use Rattle.record.specs.Layout.{rowOf, recordWith}
+use borrow.Author.Needs.{needs}
+use Rattle.record.proofs.layout.record_with.Statement.{statement}
+use Rattle.record.proofs.layout.record_with.Tie as tie
+
+stated-of-requires : tie.Need-stated-of-requires
+unfolding rowOf
+stated-of-requires c κs = rw (c .match .keys1) at (c .before .pre 2)
+
+task-of-requires : tie.Need-task-of-requires
+task-of-requires c κs = search needs
+
+array-read-number : tie.Need-array-read-number
+array-read-number c = search needs
+
+number-requires : tie.Need-number-requires
+unfolding rowOf
+number-requires c κs = rw (c .match .keys3) at (c .before .pre 2)
+
+asked-of-requires : tie.Need-asked-of-requires
+unfolding rowOf
+asked-of-requires c κs = rw (c .match .keys4) at (c .before .pre 2)
+
+returns : tie.Need-returns
+unfolding recordWith
+returns c = rw (c .before .match .keys1) (ap ComponentRecord (c .stated-of .ensures))
+
+returns-2 : tie.Need-returns-2
+unfolding recordWith
+returns-2 c = rw (c .before .match .keys2) (ap TaskRecord (c .task-of .ensures))
+
+returns-3 : tie.Need-returns-3
+unfolding recordWith
+returns-3 c = rw (c .before .match .keys3) (ap EndRecord (c .number .ensures))
+
+returns-4 : tie.Need-returns-4
+unfolding recordWith
+returns-4 c = rw (c .before .match .keys4) (ap ComponentRecord (c .asked-of .ensures))
+
+returns-5 : tie.Need-returns-5
+unfolding recordWith
+returns-5 c = search tests
+
+pub record-with-spec : {M : Type 1} → statement M
+record-with-spec =
+    tie.close
+    (tie.spec
+    stated-of-requires
+    task-of-requires
+    array-read-number
+    number-requires
+    asked-of-requires
+    returns
+    returns-2
+    returns-3
+    returns-4
+    returns-5)

@@ -1,0 +1,80 @@
+-- What is still to be stored, stored onto the part as it is now, gives the part as it must end.
+use Prim.Native.Nat.{_-_}
+use mathlib.Core.Path.{_≡_, refl, sym, _∙_}
+use lib.ListN.{length}
+use Rattle.record.proofs.RowLoops.{Storing, storing-more, storing-all, next-length}
+use borrow.Author.Needs.{needs}
+use native.Mathlib.Omega.{arith}
+use Rattle.record.proofs.row.put_row.Statement.{statement}
+use Rattle.record.proofs.row.put_row.Tie as tie
+
+abbrev Inv-loop : tie.InvT-loop
+Inv-loop part₀ row values place₀ i₀ part place i = Storing part₀ row values part place i
+
+abbrev μ-loop : tie.MeasureT-loop
+μ-loop part₀ row values place₀ i₀ part place i = 8 - i
+
+loop-holds : tie.Need-loop-holds Inv-loop μ-loop
+loop-holds c = record { todo = refl; long = refl; here = omega arith }
+
+mul-width : tie.Need-mul-width Inv-loop μ-loop
+mul-width c = omega arith
+
+array-read-width : tie.Need-array-read-width Inv-loop μ-loop
+array-read-width c = omega arith
+
+mul-put-field : tie.Need-mul-put-field Inv-loop μ-loop
+mul-put-field c = omega arith
+
+array-read-put-field : tie.Need-array-read-put-field Inv-loop μ-loop
+array-read-put-field c = omega arith
+
+put-field-requires : tie.Need-put-field-requires Inv-loop μ-loop
+put-field-requires c κs = let a = c .before .before .before .before .args in let l = c .before .before .loop in
+    let n : length (a .t2) ≡ 8 = search needs in
+    let e = next-length (a .t2) (l .i) (omega arith) in omega (arith, l .inv .long, l .inv .here)
+
+add-place : tie.Need-add-place Inv-loop μ-loop
+add-place c = let a = c .before .before .before .before .before .before .before .args in let l = c .before .before .before .before .before .loop in
+    let n : length (a .t2) ≡ 8 = search needs in
+    let e = next-length (a .t2) (l .i) (omega arith) in omega (arith, l .inv .long, l .inv .here)
+
+add-i : tie.Need-add-i Inv-loop μ-loop
+add-i c = omega arith
+
+loop-less : tie.Need-loop-less Inv-loop μ-loop
+loop-less c = omega arith
+
+loop-again : tie.Need-loop-again Inv-loop μ-loop
+loop-again c = let a = c .before .before .before .before .before .before .before .args in let l = c .before .before .before .before .before .loop in
+    let n : length (a .t2) ≡ 8 = search needs in
+    let m : length (a .t3) ≡ 8 = search needs in
+    storing-more (a .part .now) (a .t2) (a .t3) (m ∙ sym n) (l .part) (l .place) (l .i) (l .inv) (c .before .before .put-field .last .0) (omega arith) (c .before .before .put-field .ensures)
+
+same-length : tie.Need-same-length Inv-loop μ-loop
+same-length c = c .before .loop .inv .long
+
+returns : tie.Need-returns Inv-loop μ-loop
+returns c = let a = c .before .before .before .args in let l = c .before .loop in
+    let n : length (a .t2) ≡ 8 = search needs in
+    let m : length (a .t3) ≡ 8 = search needs in
+    storing-all (a .part .now) (a .t2) (a .t3) (m ∙ sym n) (l .part) (l .place) (l .i) (l .inv) (omega arith)
+
+pub put-row-spec : {M : Type 1} → statement M
+put-row-spec =
+    tie.close
+    (tie.spec
+    Inv-loop
+    μ-loop
+    loop-holds
+    mul-width
+    array-read-width
+    mul-put-field
+    array-read-put-field
+    put-field-requires
+    add-place
+    add-i
+    loop-less
+    loop-again
+    same-length
+    returns)

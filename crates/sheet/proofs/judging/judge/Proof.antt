@@ -1,0 +1,82 @@
+-- A record that is not refused is taken, each kind in its own case; the record fits since its size does.
+use Rattle.sheet.specs.Judging.{ended, after}
+use Rattle.sheet.proofs.JudgingLaws.{judged-refused, judged-taken, head-fits, task-fits}
+use borrow.Author.Needs.{needs}
+use Rattle.sheet.proofs.judging.judge.Statement.{statement}
+use Rattle.sheet.proofs.judging.judge.Tie as tie
+
+check-record-requires : tie.Need-check-record-requires
+check-record-requires c κs = search needs
+
+refuse-requires : tie.Need-refuse-requires
+refuse-requires c κs = search needs
+
+returns : tie.Need-returns
+returns c = let a = c .before .before .before .args in
+    judged-refused (a .state) (a .«record») (a .left) _ (c .before .before .check-record .ensures) (c .before .if1 .taken) _ (c .refuse .ensures)
+
+enum-known-record : tie.Need-enum-known-record
+enum-known-record c = search needs
+
+after-head-requires : tie.Need-after-head-requires
+after-head-requires c κs = let a = c .before .before .before .before .before .args in
+    head-fits (a .state) (a .«record») (a .left) _ (c .before .before .before .before .check-record .ensures) (c .before .before .before .if1 .left) _ (c .before .«record» .given .1) (c .before .before .before .before .before .pre)
+
+enum-known-record-2 : tie.Need-enum-known-record-2
+enum-known-record-2 c = search needs
+
+after-task-requires : tie.Need-after-task-requires
+after-task-requires c κs = let a = c .before .before .before .before .before .args in
+    task-fits (a .state) (a .«record») (a .left) _ (c .before .before .before .before .check-record .ensures) (c .before .before .before .if1 .left) _ (c .before .record2 .given .1) (c .before .before .before .before .before .pre)
+
+enum-told : tie.Need-enum-told
+enum-told c = search needs
+
+refuse-requires-2 : tie.Need-refuse-requires-2
+refuse-requires-2 c κs = search needs
+
+enum-told-2 : tie.Need-enum-told-2
+enum-told-2 c = search needs
+
+refuse-requires-3 : tie.Need-refuse-requires-3
+refuse-requires-3 c κs = search needs
+
+returns-2 : tie.Need-returns-2
+unfolding after ended
+returns-2 c = let a = c .before .before .before .before .before .before .args in
+    judged-taken (a .state) (a .«record») (a .left) _ (c .before .before .before .before .before .check-record .ensures) (c .before .before .before .before .if1 .left) _ (c .before .before .«record» .given .1) _ (c .after-head .ensures)
+
+returns-3 : tie.Need-returns-3
+unfolding after ended
+returns-3 c = let a = c .before .before .before .before .before .before .args in
+    judged-taken (a .state) (a .«record») (a .left) _ (c .before .before .before .before .before .check-record .ensures) (c .before .before .before .before .if1 .left) _ (c .before .before .record2 .given .1) _ (c .after-task .ensures)
+
+returns-4 : tie.Need-returns-4
+unfolding after ended
+returns-4 c = let a = c .before .before .before .before .before .args in
+    judged-taken (a .state) (a .«record») (a .left) _ (c .before .before .before .before .check-record .ensures) (c .before .before .before .if1 .left) _ (c .before .enum-told .given .1) _ (c .refuse2 .ensures)
+
+returns-5 : tie.Need-returns-5
+unfolding after ended
+returns-5 c = let a = c .before .before .before .before .before .args in
+    judged-taken (a .state) (a .«record») (a .left) _ (c .before .before .before .before .check-record .ensures) (c .before .before .before .if1 .left) _ (c .before .enum-told2 .given .1) _ (c .refuse3 .ensures)
+
+pub judge-spec : {M : Type 1} → statement M
+judge-spec =
+    tie.close
+    (tie.spec
+    check-record-requires
+    refuse-requires
+    returns
+    enum-known-record
+    after-head-requires
+    enum-known-record-2
+    after-task-requires
+    enum-told
+    refuse-requires-2
+    enum-told-2
+    refuse-requires-3
+    returns-2
+    returns-3
+    returns-4
+    returns-5)
