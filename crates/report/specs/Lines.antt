@@ -1,8 +1,6 @@
 -- The lines of the listing (01, "The listing program"), as lists of bytes.
 use Prim.Native.Nat.{ℕ}
-use mathlib.Core.Bool.{cond}
 use mathlib.Core.List.{List, [], _∷_, _++_}
-use lib.Dec.{ltb, eqb}
 use Rattle.budget.specs.declared.component.Component.{Component}
 use Rattle.budget.specs.declared.quantity.Units.{Units}
 use Rattle.judge.specs.declared.answer.Judged.{Judged}
@@ -11,11 +9,8 @@ use Rattle.judge.specs.declared.answer.Margined.{Margined}
 use Rattle.judge.specs.declared.answer.Margined.the-variants as Margined
 use Rattle.judge.specs.declared.answer.Verdict.{Verdict}
 use Rattle.judge.specs.declared.answer.Verdict.the-variants as Verdict
-use Rattle.budget.specs.Refusal as refusal
 use Rattle.judge.specs.Judged.{verdictAnswer}
 use Rattle.judge.specs.Margin.{marginAnswer}
-use Rattle.sheet.specs.Check.{check}
-use Rattle.transfer.specs.Reading.{reading}
 use Rattle.report.specs.Text.{decimal, signedText, spaced}
 
 -- the fields behind a line's first, each behind a single space, and the newline
@@ -73,12 +68,3 @@ componentLine c = decimal (c .number) ++ behind (answerFields (verdictAnswer c) 
 -- "Then `end` and the count"
 unfoldable pub endLine : ℕ → List ℕ
 endLine count = end-word ++ behind (decimal count ∷ [])
-
--- the line of a sheet's listing that stands at an index, from 0: the one line of a refused sheet; else the components' in their order, then the
--- end's. Past the last there is nothing
-unfoldable pub lineAt : List ℕ → ℕ → List ℕ
-lineAt s index =
-    cond (eqb (check s .refusal) refusal.none)
-    (cond (ltb index (check s .count)) (componentLine (reading s index .component))
-    (cond (eqb index (check s .count)) (endLine (check s .count)) []))
-    (cond (eqb index 0) (refusedLine (check s .refusal) (check s .place)) [])
