@@ -10,7 +10,7 @@ pub struct Seen {
     counts: BTreeMap<String, u64>,
 }
 
-/// For each kind of call the refusals that the rules give it.
+/// For each kind of call the refusals that it can meet (RULES 13).
 const REFUSALS: [(&str, &[u16]); 21] = [
     ("check_task", &[9]),
     ("check_table", &[6, 9]),

@@ -1,8 +1,8 @@
-//! Demand of a task table.
+//! Demand of a task table (RULES 4).
 
 use crate::numbers::{Refusal, Table, LIMIT};
 
-/// The sum over tasks with t ≥ D of (⌊(t−D)/T⌋ + 1) times C.
+/// Each task that has a deadline by t adds its C for the first such deadline and again for every whole T after it.
 pub fn demand(table: &Table, t: u64) -> u64 {
     let mut sum = 0;
     for task in &table.tasks {
@@ -14,7 +14,7 @@ pub fn demand(table: &Table, t: u64) -> u64 {
     sum
 }
 
-/// The operation: the table's 6 and 9, then 9 for t above the limit.
+/// The operation, refused in the order of RULES 13: 6 and 9 by the table, then 9 by t.
 pub fn answer(table: &Table, t: u64) -> Result<u64, Refusal> {
     table.check()?;
     if t > LIMIT {
@@ -40,7 +40,7 @@ mod tests {
         assert_eq!(demand(&table(&[(4, 2, 4), (7, 3, 7)]), 14), 12);
     }
 
-    /// Demand is the work of all jobs with deadline at most t when every task is released at 0, T, 2T and so on.
+    /// Counted one by one: the deadlines up to t of a task that releases its first job in slot 0 and another each T slots.
     #[test]
     fn demand_counts_the_densest_arrivals() {
         for period in 1..7 {

@@ -1,5 +1,5 @@
 //! Every small call there is, as a check of the definitions by running: all traces, all components, for each component the run that
-//! the third demand constructs, and a small sheet damaged in every way.
+//! shows it to be short (RULES 7), and a small sheet damaged in every way.
 
 use crate::calls::{component_text, row_text, table_text};
 use crate::numbers::{Capacity, Component, Interface, Table, Task};
@@ -76,9 +76,9 @@ pub fn components() -> Vec<String> {
     calls
 }
 
-/// For each of those components two calls, one after the other: its verdict, and the walk of the run that the third demand
-/// constructs, over two common periods: every task released at 0, T, 2T and so on with its whole work, on the worst trace. The walk must
-/// miss exactly at the verdict's instant, and not at all where the verdict is accepted.
+/// For each of those components two calls, one after the other: its verdict, and the walk of its hardest run over two common periods.
+/// In that run each task releases its full work in slot 0 and again each T slots, on the worst trace. By RULES 7 the walk misses at just
+/// the verdict's instant, and nowhere if the verdict is accepted.
 pub fn runs() -> Vec<String> {
     let mut calls = vec![];
     for interface in interfaces(3) {

@@ -1,4 +1,4 @@
-//! Verdict, margin and smallest capacity by plain search: every instant, every capacity from 0 up.
+//! Verdict, margin and smallest capacity (RULES 7 and 8) by plain search: every instant, every capacity from 0 up.
 
 use crate::demand::demand;
 use crate::numbers::{Capacity, Component, Interface, Refusal, Table};
@@ -11,10 +11,10 @@ pub enum Verdict {
     None,
 }
 
-/// A margin and the instant where it stands.
+/// A margin with its instant, or none.
 pub type Margin = Option<(i64, u64)>;
 
-/// The smallest t from 1 to the common period where demand exceeds supply.
+/// The first short instant, looked for up to L: RULES 7 says that none comes first after L.
 pub fn first_short(interface: &Interface, table: &Table, common: u64) -> Option<u64> {
     (1..=common).find(|&t| demand(table, t) > supply(interface, t))
 }
@@ -24,7 +24,7 @@ pub fn smallest_capacity(component: &Component, common: u64) -> Option<u32> {
     (0..=component.deadline).find(|&capacity| first_short(&component.interface(capacity), &component.table, common).is_none())
 }
 
-/// The least supply minus demand over the step instants, with the smallest such instant.
+/// The margin of RULES 8: only instants at which demand has just risen count, and of equal ones the first.
 pub fn least_margin(interface: &Interface, table: &Table, common: u64) -> Margin {
     let mut least: Margin = None;
     let mut before = 0;
@@ -41,7 +41,7 @@ pub fn least_margin(interface: &Interface, table: &Table, common: u64) -> Margin
     least
 }
 
-/// The smallest capacity accepted for a component's period, deadline and tasks, whatever capacity it states: 6, 9, 10.
+/// The operation of RULES 11: what a component would need, though it may state another capacity. Refused with 6, 9, 10.
 pub fn smallest(component: &Component) -> Result<Option<u32>, Refusal> {
     let common = component.common_period()?;
     Ok(smallest_capacity(component, common))
@@ -110,7 +110,7 @@ mod tests {
         assert_eq!(margin(&empty), Ok(None));
     }
 
-    /// All jobs of a table released at 0, T, 2T and so on before an instant, with their full work.
+    /// As many jobs as can be released before an instant, from slot 0 on and T slots apart, with their full work.
     fn densest(table: &Table, slots: u64) -> Jobs {
         let mut all: Vec<(u32, u32, u32)> = vec![];
         for (number, task) in table.tasks.iter().enumerate() {

@@ -1,4 +1,4 @@
-//! The listing of a sheet.
+//! The listing of a sheet (RULES 15).
 
 use crate::judge::{margin, verdict, Verdict};
 use crate::sheet;

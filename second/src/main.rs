@@ -1,4 +1,4 @@
-//! The second program: the rules in plain Rust, written from the rules, for the proved program to be held against.
+//! The second program: docs/RULES.md in plain Rust, written from the rules and never from the proved code, which is held against it.
 
 mod bench;
 mod calls;

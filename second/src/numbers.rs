@@ -1,11 +1,11 @@
-//! Tasks, interfaces and components, their ranges and their common period.
+//! Tasks, interfaces and components, their ranges (RULES 2) and their common period (RULES 3).
 
 /// The largest period, deadline, common period and instant.
 pub const LIMIT: u64 = 1_048_576;
 /// The most tasks of a component.
 pub const TASKS: u64 = 64;
 
-/// A refusal's number, as the rules list them.
+/// A refusal's number (RULES 12).
 pub type Refusal = u16;
 
 #[derive(Clone, Copy, Debug, PartialEq, Eq)]
@@ -49,7 +49,7 @@ impl Task {
         Task { period, work, deadline }
     }
 
-    /// 1 ≤ C ≤ D ≤ T ≤ 1,048,576, else 9.
+    /// A task in range, else 9 (RULES 2).
     pub fn check(&self) -> Result<(), Refusal> {
         let fits = 1 <= self.work && self.work <= self.deadline && self.deadline <= self.period && self.period as u64 <= LIMIT;
         if fits { Ok(()) } else { Err(9) }
@@ -61,7 +61,7 @@ impl Table {
         Table { count: tasks.len() as u64, tasks }
     }
 
-    /// More than 64 tasks is 6, then any task out of range is 9.
+    /// 6 by the count, then 9 if one of the tasks is out of range.
     pub fn check(&self) -> Result<(), Refusal> {
         if self.count > TASKS {
             return Err(6);
@@ -75,7 +75,7 @@ impl Interface {
         Interface { period, capacity, deadline }
     }
 
-    /// 0 ≤ Θ ≤ Δ ≤ Π ≤ 1,048,576 and Δ ≥ 1, else 9.
+    /// An interface in range, else 9 (RULES 2).
     pub fn check(&self) -> Result<(), Refusal> {
         let fits = self.capacity <= self.deadline && self.deadline <= self.period && self.period as u64 <= LIMIT && self.deadline >= 1;
         if fits { Ok(()) } else { Err(9) }
@@ -83,7 +83,7 @@ impl Interface {
 }
 
 impl Component {
-    /// What stands where an edit or a reading is refused: number 0, stated (1, 1, 1), without tasks.
+    /// The component of a refused answer (RULES 11).
     pub fn refused() -> Component {
         Component { number: 0, period: 1, capacity: Capacity::Stated(1), deadline: 1, table: Table::new(vec![]) }
     }
@@ -106,7 +106,7 @@ impl Component {
         self.table.check()
     }
 
-    /// 6, 9, and 10 where the least common multiple of Π and all T is above the limit.
+    /// L (RULES 3), or 6, 9, and 10 if it passes the limit.
     pub fn common_period(&self) -> Result<u64, Refusal> {
         self.check()?;
         let mut common = self.period as u64;
@@ -121,12 +121,12 @@ impl Component {
     }
 }
 
-/// Euclid's remainder rule, which ends at zero.
+/// The greatest common divisor, by remainders until nothing remains (RULES 3).
 pub fn common_divisor(a: u64, b: u64) -> u64 {
     if b == 0 { a } else { common_divisor(b, a % b) }
 }
 
-/// Adding a task: 6 (also when 64 stand already), 9; the new task comes last.
+/// Adding a task behind the others: 6 if there is no place for it, then 9 (RULES 13).
 pub fn add_task(component: &Component, task: Task) -> Result<Component, Refusal> {
     if component.table.count >= TASKS {
         return Err(6);
@@ -139,7 +139,7 @@ pub fn add_task(component: &Component, task: Task) -> Result<Component, Refusal>
     Ok(edited)
 }
 
-/// Removing the task at a place: 6, 9, 15; later tasks move down one.
+/// Removing the task of a number, so that those behind it close up: 6, 9, 15 (RULES 13).
 pub fn remove_task(component: &Component, place: u64) -> Result<Component, Refusal> {
     component.check()?;
     if place >= component.table.count {

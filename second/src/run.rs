@@ -1,4 +1,4 @@
-//! The run of jobs on a trace, slot by slot.
+//! The run of jobs on a trace, slot by slot (RULES 9).
 
 use crate::numbers::{Refusal, Table};
 use crate::trace;
@@ -24,7 +24,8 @@ pub struct Walked {
     pub left: Vec<u32>,
 }
 
-/// 12 where the lists are unequal or too long, or break a rule of the run; the table is in range.
+/// 12 unless the lists keep RULES 9: as long as each other, not too long, each job as its task allows, in order, apart, inside the
+/// trace. The table is in range.
 pub fn check_jobs(table: &Table, jobs: &Jobs, slots: usize) -> Result<(), Refusal> {
     let count = jobs.tasks.len();
     if jobs.releases.len() != count || jobs.works.len() != count || count > JOBS {
@@ -88,7 +89,7 @@ pub fn ties(table: &Table, jobs: &Jobs, trace: &[u8]) -> (bool, bool) {
     (between, late)
 }
 
-/// The operation: 6, 9, 12, 13, and 11 for a work-left buffer whose length isn't the job count.
+/// The operation: 6, 9, 12, 13, and 11 unless the work-left buffer has one number for each job (RULES 13).
 pub fn answer(table: &Table, jobs: &Jobs, trace: &[u8], left: u64) -> Result<Walked, Refusal> {
     table.check()?;
     check_jobs(table, jobs, trace.len())?;

@@ -1,4 +1,4 @@
-//! The sheet: its check, parts, reading and writing, and the reply to the host.
+//! The sheet (RULES 10): its check, parts, reading and writing; and the replies to the host (RULES 14).
 
 use crate::judge::{margin, verdict, Verdict};
 use crate::numbers::{Capacity, Component, Refusal, Table, Task, TASKS};
@@ -24,7 +24,7 @@ pub struct Read {
     pub component: Component,
 }
 
-/// The refusal and the byte where the record began.
+/// The refusal and its place (RULES 11).
 pub type Fault = (Refusal, usize);
 
 /// The length of a kind of record.
@@ -46,7 +46,7 @@ pub fn time(bytes: &[u8], at: usize) -> u32 {
     u32::from_le_bytes([bytes[at], bytes[at + 1], bytes[at + 2], bytes[at + 3]])
 }
 
-/// The kind and the fields of the record at a place: 1 (under 4 bytes), 2, 3, 1 (cut).
+/// The record at a place, with its kind; RULES 13 has the order: too short for a head, kind, length, cut.
 pub fn record(sheet: &[u8], at: usize) -> Result<(u16, &[u8]), Refusal> {
     let rest = &sheet[at..];
     if rest.len() < 4 {
@@ -85,7 +85,7 @@ pub fn read(sheet: &[u8]) -> Result<Vec<Read>, Fault> {
     }
 }
 
-/// A component record: 7, 5, 9.
+/// A component record: one too many is 7, a number that doesn't rise 5, a value out of range 9, in that order.
 fn component(before: &[Read], kind: u16, fields: &[u8], at: usize) -> Result<Read, Refusal> {
     if before.len() == COMPONENTS {
         return Err(7);
@@ -103,7 +103,7 @@ fn component(before: &[Read], kind: u16, fields: &[u8], at: usize) -> Result<Rea
     Ok(Read { start: at, end: at + fields.len(), component })
 }
 
-/// A task record: 4, 6, 9.
+/// A task record: with no component before it 4, one too many 6, out of range 9, in that order.
 fn task(components: &mut [Read], fields: &[u8], end: usize) -> Result<(), Refusal> {
     let read = components.last_mut().ok_or(4u16)?;
     if read.component.table.count == TASKS {
@@ -168,13 +168,13 @@ pub fn times(bytes: &mut Vec<u8>, values: &[u32]) {
     }
 }
 
-/// Writes a component from a place on and answers the new place: 6, 9, 11.
+/// Writes a component and answers the place behind it, or 6, 9, 11 (RULES 13).
 pub fn write_component(component: &Component, buffer: &mut [u8], at: u64) -> Result<u64, Refusal> {
     component.check()?;
     put(&component_bytes(component), buffer, at)
 }
 
-/// Writes the end record from a place on and answers the new place: 9 for a count above 256, 11.
+/// Writes the end record and answers the place behind it, or 9 by the count, 11 (RULES 13).
 pub fn write_end(count: u64, buffer: &mut [u8], at: u64) -> Result<u64, Refusal> {
     if count > COMPONENTS as u64 {
         return Err(9);
@@ -209,7 +209,7 @@ pub fn reply(component: &Component) -> Result<Vec<u8>, Refusal> {
     Ok(bytes)
 }
 
-/// The host's call: the sheet's refusal, 15, 10, 11; 0 where the reply is written.
+/// The host's judging call: refused by the sheet, or with 15, 10, 11; 0 if the reply is written.
 pub fn host_call(sheet: &[u8], place: u64, buffer: &mut [u8], at: u64) -> Refusal {
     let read = match at_place(sheet, place) {
         Ok(read) => read,
@@ -221,7 +221,7 @@ pub fn host_call(sheet: &[u8], place: u64, buffer: &mut [u8], at: u64) -> Refusa
     }
 }
 
-/// The host's call that checks a sheet: the refusal, its place and the count of components, 4 bytes each; 11 without room.
+/// The host's checking call: refusal, place and count of the sheet as the reply; 11 without room.
 pub fn host_check(sheet: &[u8], buffer: &mut [u8], at: u64) -> Refusal {
     let (refusal, place, count) = match read(sheet) {
         Ok(all) => (0, 0, all.len()),

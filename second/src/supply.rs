@@ -1,8 +1,8 @@
-//! Supply of an interface.
+//! Supply of an interface (RULES 6).
 
 use crate::numbers::{Interface, Refusal, LIMIT};
 
-/// The rules' formula: 0 if t < Δ−Θ; else, with y = ⌊(t−(Δ−Θ))/Π⌋, yΘ + max(0, t−(Π+Δ−2Θ)−yΠ).
+/// The closed form: the units of the whole periods, and what a last one has given since its gap ended.
 pub fn supply(interface: &Interface, t: u64) -> u64 {
     let (period, capacity, deadline) = (interface.period as i64, interface.capacity as i64, interface.deadline as i64);
     let t = t as i64;
@@ -14,7 +14,7 @@ pub fn supply(interface: &Interface, t: u64) -> u64 {
     (whole * capacity + rest.max(0)) as u64
 }
 
-/// The operation: the interface's 9, then 9 for t above the limit.
+/// The operation: 9 by the interface, then 9 by t (RULES 13).
 pub fn answer(interface: &Interface, t: u64) -> Result<u64, Refusal> {
     interface.check()?;
     if t > LIMIT {
@@ -35,7 +35,7 @@ mod tests {
         assert_eq!(supply(&Interface::new(6, 3, 6), 14), 5);
     }
 
-    /// Supply equals the least number of supplied slots over all legal traces of t slots: every trace at every offset is tried.
+    /// The closed form against its meaning: every trace is tried at every offset, and the emptiest legal one counts.
     #[test]
     fn supply_is_the_least_over_all_legal_traces() {
         for period in 1..=5 {

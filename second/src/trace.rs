@@ -1,12 +1,11 @@
-//! Legal supply: the yes or no on a trace.
+//! Legal supply (RULES 5), and whether a trace is legal.
 
 use crate::numbers::{Interface, Refusal};
 
 /// The most trace bytes.
 pub const BYTES: usize = 65_536;
 
-/// For every period that the trace touches: supplied slots at places below Δ, plus places below Δ of that period
-/// lying outside the trace, are at least Θ.
+/// Each period with a slot in the trace keeps its promise: of its first Δ places, Θ or more are supplied or can't be seen from the trace.
 pub fn legal(interface: &Interface, offset: u64, trace: &[u8]) -> bool {
     let (period, deadline) = (interface.period as u64, interface.deadline as u64);
     let begin = offset;
@@ -24,7 +23,7 @@ pub fn legal(interface: &Interface, offset: u64, trace: &[u8]) -> bool {
     true
 }
 
-/// 13: a trace longer than 65,536, or a byte not 0 or 1.
+/// 13 for a trace that is too long or has another byte than 0 and 1 (RULES 12).
 pub fn check(trace: &[u8]) -> Result<(), Refusal> {
     if trace.len() > BYTES || trace.iter().any(|&byte| byte > 1) {
         return Err(13);
@@ -32,7 +31,7 @@ pub fn check(trace: &[u8]) -> Result<(), Refusal> {
     Ok(())
 }
 
-/// The operation: 9 for the interface or an offset not below Π, then 13.
+/// The operation: 9 by the interface or the offset, then 13 (RULES 13).
 pub fn answer(interface: &Interface, offset: u64, trace: &[u8]) -> Result<bool, Refusal> {
     interface.check()?;
     if offset >= interface.period as u64 {
@@ -69,7 +68,7 @@ mod tests {
         assert!(!legal(&interface, 3, &row));
     }
 
-    /// Legality place by place, in the rules' words.
+    /// The same by looking at each place of each period (RULES 5).
     fn legal_by_places(interface: &Interface, offset: u64, trace: &[u8]) -> bool {
         let (period, deadline) = (interface.period as u64, interface.deadline as u64);
         let touched: std::collections::BTreeSet<u64> = (0..trace.len() as u64).map(|i| (offset + i) / period).collect();
