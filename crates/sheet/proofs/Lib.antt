@@ -1,3 +1,6 @@
 pub mod Figures
+pub mod JudgingLaws
 pub mod WalkLaws
+pub mod ContentsLaws
+pub mod Walking
 pub mod PartLaws

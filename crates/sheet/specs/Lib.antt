@@ -1,2 +1,5 @@
+pub mod Judging
+pub mod Walk
 pub mod Check
+pub mod Contents
 pub mod Part

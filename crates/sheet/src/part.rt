@@ -1,12 +1,15 @@
 // The part of a sheet that holds one component's records, chosen by its place in the sheet, from 0.
 use crate::check::Checked;
-use crate::check::MOST_BYTES;
-use crate::check::Span;
-use crate::check::checked_of;
-use crate::check::walk;
+use crate::contents::contents_of;
 use budget::refusal;
 ghost use mathlib.Core.Path.{_≡_};
-ghost use Rattle.sheet.specs.Part.{chosen, spanFor, partCheck, partOf, Placed};
+ghost use Rattle.sheet.specs.Part.{chosen, partCheck, located, partOf};
+
+// Where the records of one component lie: from its own record to its last task's end.
+pub struct Span {
+    pub from: usize,
+    pub to: usize,
+}
 
 // Where the component at a place lies; refused: nowhere.
 pub struct Located {
@@ -32,36 +35,26 @@ fn choose(checked: Checked, place: usize) -> Checked
     }
 }
 
-fn span_for(checked: Checked, span: Span) -> Span
-    ensures { λ r. ⌜ r ≡ spanFor checked span ⌝ }
-{
-    let refused = checked.refusal;
-    if refused == refusal::NONE {
-        return span;
-    }
-    Span { from: 0, to: 0 }
-}
-
 // One walk over the sheet: its refusal, then 15 where no component stands at that place, and where the component lies.
 pub fn locate(sheet: &[u8], place: usize) -> Located
-    ensures { λ r. ⌜ Placed (now (sheet .entry)) place r ⌝ }
+    ensures { λ r. ⌜ r ≡ located (now (sheet .entry)) place ⌝ }
 {
-    if MOST_BYTES < sheet.len() {
+    let found = contents_of(sheet);
+    let checked = choose(found.checked, place);
+    let refused = checked.refusal;
+    if refused != refusal::NONE {
         return Located {
-            checked: Checked {
-                refusal: refusal::SHEET,
-                place: 0,
-                count: 0,
-            },
+            checked,
             span: Span { from: 0, to: 0 },
         };
     }
-    let found = walk(sheet, place);
-    let state = found.state;
-    let span = found.span;
-    let checked = choose(checked_of(state), place);
-    let span = span_for(checked, span);
-    Located { checked, span }
+    let edges = found.edges;
+    let from = edges[place];
+    let to = edges[place + 1];
+    Located {
+        checked,
+        span: Span { from, to },
+    }
 }
 
 // The refusal of handing back a part, with the byte where a sheet's record began.

@@ -6,17 +6,15 @@ use native.Mathlib.Nat.{add-zero, add-assoc, zero-add, suc-add, add-suc}
 use native.Mathlib.Omega.{arith}
 use lib.ListN.{length, getD, take, drop, length-append}
 use lib.Seq.{sets, sets-eq, length-sets, take-append-seam}
-use lib.Dec.{ltb, eqb}
-use borrow.Author.Tests.{le-leb, le-ltb, ltb-false, eqb-true}
+use borrow.Author.Tests.{le-leb, le-ltb}
 use Rattle.budget.specs.declared.component.Component.{Component}
 use Rattle.budget.specs.declared.task.Task.{Task}
 use Rattle.budget.specs.Component.{Same, refused, withTasks}
 use Rattle.budget.specs.Task.{tasksOf, tableOf}
 use Rattle.budget.proofs.EditLaws.{tasks-of-table}
 use Rattle.sheet.specs.declared.check.Checked.{Checked}
-use Rattle.sheet.specs.declared.check.State.{State}
 use Rattle.transfer.specs.declared.read.Reading.{Reading}
-use Rattle.sheet.specs.Check.{most-bytes, start, walk, checkedOf, check}
+use Rattle.sheet.specs.Check.{most-bytes, check}
 use Rattle.record.specs.Field.{Bytes}
 use Rattle.record.specs.Layout.{endBytes}
 use Rattle.sheet.specs.Part.{partOf}
@@ -24,10 +22,9 @@ use Rattle.transfer.specs.Reading.{reading}
 use Rattle.transfer.specs.RoundTrip.{componentsBytes, sheetBytes, Page, put, close, putAll, writeAll, readings, SameBytes, PartsRead, returned, Sound, Rising, ReadBack, SameComponents}
 use Rattle.transfer.specs.Writing.{tasksBytes, componentBytes, stored, roomRefusal, writingRefusal, endRefusal, written, buffered}
 use Rattle.transfer.proofs.Accepts.{tasks-full}
-use Rattle.record.proofs.Cases.{cases}
-use Rattle.sheet.proofs.PartLaws.{check-walks}
+use Rattle.sheet.proofs.ContentsLaws.{taken}
 use Rattle.transfer.proofs.ReadsBack.{sheet-accepted, part-is, reading-back, sound-at}
-use Rattle.transfer.proofs.Shape.{Shape, accepted-shape}
+use Rattle.transfer.proofs.Shape.{Shape, accepted-short, accepted-shape}
 use Rattle.transfer.proofs.StoreLaws.{sets-append}
 
 -- ---- writing
@@ -118,18 +115,10 @@ readings-are s (c ∷ cs) k h =
 
 -- what is known of a sheet that is not refused
 pub short-enough : (s : List ℕ) → check s .refusal ≡ 0 → length s ≤ most-bytes
-unfolding check
-short-enough s =
-    cases (λ (x : Checked). x .refusal ≡ 0 → length s ≤ most-bytes) (ltb most-bytes (length s)) (λ p e. absurd (omega (arith, e))) (λ p e. ltb-false most-bytes (length s) p)
-
-walk-unrefused : (st : State) → checkedOf st .refusal ≡ 0 → st .refusal ≡ 0
-unfolding checkedOf
-walk-unrefused st = cases (λ (x : Checked). x .refusal ≡ 0 → st .refusal ≡ 0) (eqb (st .refusal) 0) (λ p e. eqb-true (st .refusal) 0 p) (λ p e. e)
+short-enough s e = accepted-short s (taken s e .unrefused)
 
 pub accepted-sheet : (s : List ℕ) → Bytes s → check s .refusal ≡ 0 → Shape s 0 0 0 0
-accepted-sheet s bytes e =
-    accepted-shape s bytes
-    (walk-unrefused (walk (suc (length s)) s start) (sym (ap (λ (x : Checked). x .refusal) (check-walks s (short-enough s e))) ∙ e))
+accepted-sheet s bytes e = accepted-shape s bytes (taken s e .unrefused)
 
 pub sheet-of : (s : List ℕ) (h : Shape s 0 0 0 0) → s ≡ sheetBytes (h .cs)
 unfolding sheetBytes tasksBytes

@@ -18,19 +18,22 @@ use Rattle.budget.proofs.Answers.{passed}
 use Rattle.budget.proofs.EditLaws.{tasks-of-table}
 use Rattle.budget.proofs.Ranges.{range-in}
 use Rattle.budget.proofs.Valid.{and-true}
-use Rattle.sheet.specs.declared.check.State.{State}
+use Rattle.sheet.specs.declared.judging.State.{State}
 use Rattle.record.specs.declared.layout.Head.{Head}
 use Rattle.record.specs.declared.layout.Record.{Record}
 use Rattle.record.specs.declared.layout.Record.the-variants.{ComponentRecord, TaskRecord, EndRecord, NoRecord}
 use Rattle.record.specs.Field.{Bytes}
 use Rattle.record.specs.Layout.{headBytes, headSize, taskBytes, endBytes, recordBytes, sizeOf, recordOf}
-use Rattle.sheet.specs.Check.{start, refuse, ended, ranged, numberRefusal, earlier, headRefusal, afterHead, judgedHead, afterTask, judgedTask, judgedEnd, judged, step, walk}
+use Rattle.sheet.specs.Judging.{most-bytes, start, refuse, ended, opened, ranged, numberRefusal, earlier, headRefusal, afterHead, judgedHead, afterTask, judgedTask, judgedEnd, judged}
+use Rattle.sheet.specs.Walk.{step, walk}
+use Rattle.sheet.specs.Check.{walked}
+use Rattle.sheet.proofs.JudgingLaws.{some-head}
 use Rattle.transfer.specs.RoundTrip.{componentsBytes, returned, Sound, Rising}
 use Rattle.transfer.specs.Reading.{withHead}
 use Rattle.transfer.specs.Writing.{tasksBytes, componentBytes}
 use Rattle.record.proofs.Cases.{cases}
 use Rattle.record.proofs.RoundRecord.{Faithful, faithful}
-use Rattle.sheet.proofs.WalkLaws.{walk-on, walk-stopped, some-head, room-of}
+use Rattle.sheet.proofs.WalkLaws.{walk-on, walk-stopped, room-of}
 
 -- what stands from a place on, where the walk goes on from there and accepts: tasks of the last component, further components, the end record
 pub record Shape (s : List ℕ) (p count lowest tasks : ℕ) : Type 0 where
@@ -47,11 +50,11 @@ pub record Shape (s : List ℕ) (p count lowest tasks : ℕ) : Type 0 where
 -- a walk that stopped with a refusal does not accept, so the test that led elsewhere held
 module _ (f : ℕ) (s : List ℕ) where
   Accepts : State → Type 0
-  Accepts st = walk f s st .refusal ≡ 0
+  Accepts st = walk judged f s st .refusal ≡ 0
 
   refused-not : (n : ℕ) (st : State) → (n ≡ 0 → ⊥) → Accepts (refuse n st) → ⊥
   unfolding Accepts refuse
-  refused-not n st h a = h (sym (ap (λ (x : State). x .refusal) (walk-stopped f s (refuse n st) refl)) ∙ a)
+  refused-not n st h a = h (sym (ap (λ (x : State). x .refusal) (walk-stopped judged f s (refuse n st) refl)) ∙ a)
 
   -- of a test whose true branch refuses, and of one whose false branch does
   passes : (b : Bool) (n : ℕ) (st next : State) → (n ≡ 0 → ⊥) → Accepts (cond b (refuse n st) next) → (b ≡ false) × Accepts next
@@ -83,7 +86,7 @@ module _ (f : ℕ) (s : List ℕ) (st : State) (left : ℕ) where
   Here = Shape s (st .place) (st .count) (st .lowest) (st .tasks)
 
   end-shape : (n : ℕ) → st .count ≤ 256 → st .tasks ≤ 64 → left ≡ length s - st .place → Faithful (drop (st .place) s) (EndRecord n) → Accepts f s (judged st (EndRecord n) left) → Here
-  unfolding judged judgedEnd Here tasksBytes componentsBytes validTasks
+  unfolding judged judgedEnd Here tasksBytes componentsBytes validTasks sizeOf
   end-shape n most few l w a =
       let x = holds f s (eqb n (st .count)) 8 st (cond (eqb left 6) (ended st) (refuse 8 st)) (λ e. omega (arith, e)) a in
       let y = holds f s (eqb left 6) 8 st (ended st) (λ e. omega (arith, e)) (x .1) in
@@ -103,12 +106,12 @@ module _ (f : ℕ) (s : List ℕ) (st : State) (left : ℕ) where
       }
 
   task-shape : (k : Task) → Faithful (drop (st .place) s) (TaskRecord k) → Accepts f s (judged st (TaskRecord k) left)
-      → (st .tasks < 64 → Accepts f s (afterTask st) → Shape s (st .place + 16) (st .count) (st .lowest) (st .tasks + 1)) → Here
-  unfolding judged judgedTask Here tasksBytes validTasks taskRefusal
+      → (st .tasks < 64 → Accepts f s (afterTask st k) → Shape s (st .place + sizeOf (TaskRecord k)) (st .count) (st .lowest) (st .tasks + 1)) → Here
+  unfolding judged judgedTask Here tasksBytes validTasks taskRefusal sizeOf
   task-shape k w a next =
-      let x = passes f s (eqb (st .count) 0) 4 st (cond (leb 64 (st .tasks)) (refuse 6 st) (ranged (taskRefusal k) st (afterTask st))) (λ e. omega (arith, e)) a in
-      let y = passes f s (leb 64 (st .tasks)) 6 st (ranged (taskRefusal k) st (afterTask st)) (λ e. omega (arith, e)) (x .1) in
-      let z = in-range-of f s (taskRefusal k) st (afterTask st) (y .1) in
+      let x = passes f s (eqb (st .count) 0) 4 st (cond (leb 64 (st .tasks)) (refuse 6 st) (ranged (taskRefusal k) st (afterTask st k))) (λ e. omega (arith, e)) a in
+      let y = passes f s (leb 64 (st .tasks)) 6 st (ranged (taskRefusal k) st (afterTask st k)) (λ e. omega (arith, e)) (x .1) in
+      let z = in-range-of f s (taskRefusal k) st (afterTask st k) (y .1) in
       let few = leb-false 64 (st .tasks) (y .0) in
       let n = next few (z .1) in
       record {
@@ -152,8 +155,8 @@ same-head h ks = ap (λ (x : List Task). withHead h x) (tasks-of-table ks)
 
 module _ (f : ℕ) (s : List ℕ) (st : State) (left : ℕ) where
   head-shape : (h : Head) → Faithful (drop (st .place) s) (ComponentRecord h) → Accepts f s (judged st (ComponentRecord h) left) → st .tasks ≤ 64
-      → (st .count < 256 → Accepts f s (afterHead st h) → Shape s (st .place + headSize (h .capacity)) (st .count + 1) (h .number + 1) 0) → Here f s st left
-  unfolding judged judgedHead Here tasksBytes componentsBytes validTasks withHead
+      → (st .count < 256 → Accepts f s (afterHead st h) → Shape s (st .place + sizeOf (ComponentRecord h)) (st .count + 1) (h .number + 1) 0) → Here f s st left
+  unfolding judged judgedHead Here tasksBytes componentsBytes validTasks withHead sizeOf
   head-shape h w a low next =
       let order = earlier (numberRefusal (h .number) (st .lowest)) (headRefusal h) in
       let x = passes f s (leb 256 (st .count)) 7 st (ranged order st (afterHead st h)) (λ e. omega (arith, e)) a in
@@ -179,6 +182,14 @@ module _ (f : ℕ) (s : List ℕ) (st : State) (left : ℕ) where
 
 -- ---- the whole walk
 
+-- an accepted walk begins with a sheet that is not too long
+begun : (s : List ℕ) → walked s .refusal ≡ 0 → (ltb most-bytes (length s) ≡ false) × Accepts (suc (length s)) s start
+unfolding Accepts walked opened
+begun s a = passes (suc (length s)) s (ltb most-bytes (length s)) 14 start start (λ e. omega (arith, e)) a
+
+pub accepted-short : (s : List ℕ) → walked s .refusal ≡ 0 → length s ≤ most-bytes
+accepted-short s a = ltb-false most-bytes (length s) (begun s a .0)
+
 module _ (s : List ℕ) (b : Bytes s) where
   bytes-from : (p : ℕ) → Bytes (drop p s)
   bytes-from p i = rw getD-drop (b (p + i))
@@ -191,7 +202,7 @@ module _ (s : List ℕ) (b : Bytes s) where
       let some = some-head (h .capacity) in
       head-shape f s st (length s - st .place) h w a few (λ c x. next (afterHead st h) refl room (omega arith) (omega arith) (omega arith) x)
   record-shape f st (TaskRecord k) w room few most a next =
-      task-shape f s st (length s - st .place) k w a (λ c x. next (afterTask st) refl room (omega arith) (omega arith) most x)
+      task-shape f s st (length s - st .place) k w a (λ c x. next (afterTask st k) refl room (omega arith) (omega arith) most x)
   record-shape f st (EndRecord n) w room few most a next = end-shape f s st (length s - st .place) n most few refl w a
   record-shape f st (NoRecord n) w room few most a next = absurd (refused-not f s n st w a)
 
@@ -200,9 +211,9 @@ module _ (s : List ℕ) (b : Bytes s) where
   shape zero st g h l few most a = absurd (omega arith)
   shape (suc f) st g h l few most a =
       record-shape f st (recordOf (drop (st .place) s)) (faithful (drop (st .place) s) (bytes-from (st .place))) (room-of s (st .place) h) few most
-      (sym (ap (λ (x : State). x .refusal) (walk-on f s st g)) ∙ a)
+      (sym (ap (λ (x : State). x .refusal) (walk-on judged f s st g)) ∙ a)
       (λ next g′ h′ m′ few′ most′ a′. shape f next g′ h′ (omega arith) few′ most′ a′)
 
-  pub accepted-shape : walk (suc (length s)) s start .refusal ≡ 0 → Shape s 0 0 0 0
-  unfolding Accepts start
-  accepted-shape a = shape (suc (length s)) start refl (omega arith) (omega arith) (omega arith) (omega arith) a
+  pub accepted-shape : walked s .refusal ≡ 0 → Shape s 0 0 0 0
+  unfolding start
+  accepted-shape a = shape (suc (length s)) start refl (omega arith) (omega arith) (omega arith) (omega arith) (begun s a .1)

@@ -1,8 +1,8 @@
 -- Reading one component: its number and interface from its record, its tasks from the records behind it.
-use Prim.Native.Nat.{ℕ, zero, suc, _-_, _/_, min}
+use Prim.Native.Nat.{ℕ, zero, suc}
 use mathlib.Core.Bool.{cond}
 use mathlib.Core.List.{List, [], _∷_}
-use lib.ListN.{length, drop}
+use lib.ListN.{drop}
 use lib.Dec.{eqb}
 use Rattle.budget.specs.declared.component.Component.{Component}
 use Rattle.budget.specs.declared.task.Task.{Task}
@@ -13,32 +13,34 @@ use Rattle.budget.specs.Task.{tableOf}
 use Rattle.record.specs.declared.layout.Head.{Head}
 use Rattle.record.specs.declared.layout.Record.{Record}
 use Rattle.record.specs.declared.layout.Record.the-variants.{ComponentRecord, TaskRecord, EndRecord, NoRecord}
-use Rattle.transfer.specs.declared.read.Reading.{Reading}
-use Rattle.record.specs.Layout.{headSize, recordOf, taskAt}
+use Rattle.record.specs.Layout.{sizeOf, recordOf}
 use Rattle.sheet.specs.Part.{partCheck, partOf}
+use Rattle.transfer.specs.declared.read.Reading.{Reading}
 
--- the tasks of n task records
+-- a task record's task and those behind it; any other record ends them
+unfoldable pub taskThen : Record → List Task → List Task
+taskThen (TaskRecord k) ks = k ∷ ks
+taskThen (ComponentRecord h) ks = []
+taskThen (EndRecord count) ks = []
+taskThen (NoRecord n) ks = []
+
+-- the tasks of the task records at the front of a row of bytes, n at most; each record tells its own length
 unfoldable pub tasksIn : ℕ → List ℕ → List Task
 tasksIn zero s = []
-tasksIn (suc n) s = taskAt s ∷ tasksIn n (drop 16 s)
+tasksIn (suc n) s = taskThen (recordOf s) (tasksIn n (drop (sizeOf (recordOf s)) s))
 
--- how many task records of 16 bytes stand behind a component record; a table has places for 64
-unfoldable pub tasksBehind : ℕ → ℕ → ℕ
-tasksBehind room size = min most-tasks ((room - size) / 16)
-
--- the component that a component record says, with these tasks, "zero in what is returned" from the count on
+-- the component that a component record says, with these tasks, zero in what is returned from the count on (docs/RULES.md, 2)
 unfoldable pub withHead : Head → List Task → Component
 withHead h ks = record { number = h .number; period = h .period; capacity = h .capacity; deadline = h .deadline; table = tableOf ks }
 
--- the component of a part that begins with this record
+-- the component of a part that begins with this record; a table has places for the most tasks of a component
 unfoldable pub componentFrom : List ℕ → Record → Component
-componentFrom s (ComponentRecord h) =
-    withHead h (tasksIn (tasksBehind (length s) (headSize (h .capacity))) (drop (headSize (h .capacity)) s))
+componentFrom s (ComponentRecord h) = withHead h (tasksIn most-tasks (drop (sizeOf (ComponentRecord h)) s))
 componentFrom s (TaskRecord k) = refused
-componentFrom s (EndRecord n) = refused
+componentFrom s (EndRecord count) = refused
 componentFrom s (NoRecord n) = refused
 
--- "Handing back a part or reading one component: sheet, 15"; "where .. a reading is refused the component is number 0, stated (1, 1, 1), without tasks"
+-- the sheet's refusal, then 15 where no component stands at the place (RULES 13); refused, the component is the one that RULES 11 fixes
 unfoldable pub reading : List ℕ → ℕ → Reading
 reading s k =
     record {

@@ -8,15 +8,14 @@ use budget::task::no_tasks;
 use record::layout::Head;
 use record::layout::Record;
 use record::layout::record_of;
-use record::layout::task_at;
-use sheet::check::head_size;
+use sheet::judging::size_of;
 use sheet::part::locate;
 ghost use mathlib.Core.Path.{_≡_};
-ghost use Prim.Native.Nat.{_+_, _*_, _≤_};
+ghost use Prim.Native.Nat.{_≤_};
 ghost use lib.ListN.{length, drop};
 ghost use Rattle.budget.specs.Task.{tableOf};
-ghost use Rattle.record.specs.Layout.{sizeOf, headSize, recordOf};
-ghost use Rattle.transfer.specs.Reading.{tasksIn, tasksBehind, componentFrom, reading};
+ghost use Rattle.record.specs.Layout.{sizeOf, recordOf};
+ghost use Rattle.transfer.specs.Reading.{tasksIn, componentFrom, reading};
 
 // What a reading answers; refused: the component number 0, stated (1, 1, 1), without tasks.
 pub struct Reading {
@@ -25,29 +24,23 @@ pub struct Reading {
     pub component: Component,
 }
 
-// How many task records stand behind a component record; a table has places for 64.
-fn tasks_behind(room: usize, size: usize) -> usize
-    requires { ⌜ size ≤ room ⌝ }
-    ensures { λ r. ⌜ r ≡ tasksBehind room size ⌝ }
-{
-    let records = (room - size) / 16;
-    if records < Table::MOST {
-        return records;
-    }
-    Table::MOST
-}
-
-fn read_tasks(part: &[u8], start: usize, count: usize) -> Table
-    requires { ⌜ (start + 16 * count ≤ length (now part)) × (count ≤ 64) ⌝ }
-    ensures { λ r. ⌜ r ≡ tableOf (tasksIn count (drop start (now (part .entry)))) ⌝ }
+fn read_tasks(part: &[u8], start: usize) -> Table
+    requires { ⌜ start ≤ length (now part) ⌝ }
+    ensures { λ r. ⌜ r ≡ tableOf (tasksIn 64 (drop start (now (part .entry)))) ⌝ }
 {
     let mut table = no_tasks();
     let mut place = start;
-    let mut left = count;
+    let mut left = Table::MOST;
     while 0 < left {
-        let task = task_at(&part[place..]);
+        let record = record_of(&part[place..]);
+        let task = match record {
+            Record::TaskRecord(task) => task,
+            Record::ComponentRecord(_) => return table,
+            Record::EndRecord(_) => return table,
+            Record::NoRecord(_) => return table,
+        };
         table = append(table, task);
-        place += 16;
+        place += size_of(record);
         left -= 1;
     }
     table
@@ -70,13 +63,11 @@ fn with_head(head: Head, table: Table) -> Component
 }
 
 fn component_with(part: &[u8], head: Head) -> Component
-    requires { ⌜ headSize (head .capacity) ≤ length (now part) ⌝ }
+    requires { ⌜ sizeOf (Record.ComponentRecord head) ≤ length (now part) ⌝ }
     ensures { λ r. ⌜ r ≡ componentFrom (now (part .entry)) (Record.ComponentRecord head) ⌝ }
 {
-    let capacity = head.capacity;
-    let size = head_size(capacity);
-    let count = tasks_behind(part.len(), size);
-    let table = read_tasks(part, size, count);
+    let size = size_of(Record::ComponentRecord(head));
+    let table = read_tasks(part, size);
     with_head(head, table)
 }
 
@@ -92,7 +83,9 @@ fn component_from(part: &[u8], record: Record) -> Component
     }
 }
 
-fn component_in(part: &[u8]) -> Component
+// Reads the component of a part: its record, then the task records behind it. A part that does not begin with a component record
+// is read as the component of a refused reading.
+pub fn read_part(part: &[u8]) -> Component
     ensures { λ r. ⌜ r ≡ componentFrom (now (part .entry)) (recordOf (now (part .entry))) ⌝ }
 {
     let record = record_of(part);
@@ -117,7 +110,7 @@ pub fn read_component(sheet: &[u8], place: usize) -> Reading
     let span = found.span;
     let from = span.from;
     let to = span.to;
-    let component = component_in(&sheet[from..to]);
+    let component = read_part(&sheet[from..to]);
     Reading {
         refusal: number,
         place: checked.place,

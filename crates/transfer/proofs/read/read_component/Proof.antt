@@ -1,10 +1,31 @@
 -- Refused as the part is; else the component of the part located.
-use Rattle.sheet.specs.Part.{partOf}
+use Prim.Native.Nat.{_≤_}
+use mathlib.Core.Path.{_≡_, ap}
+use native.Mathlib.Omega.{arith}
+use lib.ListN.{length}
 use borrow.Author.Tests.{eq-eqb, ne-eqb}
+use Rattle.sheet.specs.declared.part.Located.{Located}
+use Rattle.sheet.specs.Part.{partCheck, spanOf, located, partOf}
+use Rattle.sheet.proofs.PartLaws.{span-order, span-within}
 use Rattle.transfer.specs.Reading.{reading}
 use borrow.Author.Needs.{needs}
 use Rattle.transfer.proofs.read.read_component.Statement.{statement}
 use Rattle.transfer.proofs.read.read_component.Tie as tie
+
+-- the span lies within the sheet
+found : (c : tie.After-locate) → let l = c .locate .result in let s = c .before .before .args .sheet .now in (l .span .from ≤ l .span .to) × (l .span .to ≤ length s)
+unfolding located
+found c = let a = c .before .before .args in
+    rw (c .locate .ensures) (span-order (a .sheet .now) (a .place), span-within (a .sheet .now) (a .place))
+
+-- the refusal found and the span are those of the definition
+checked-is : (c : tie.After-locate) → c .locate .result .checked ≡ partCheck (c .before .before .args .sheet .now) (c .before .before .args .place)
+unfolding located
+checked-is c = ap (λ (l : Located). l .checked) (c .locate .ensures)
+
+span-is : (c : tie.After-locate) → c .locate .result .span ≡ spanOf (c .before .before .args .sheet .now) (c .before .before .args .place)
+unfolding located
+span-is c = ap (λ (l : Located). l .span) (c .locate .ensures)
 
 locate-requires : tie.Need-locate-requires
 locate-requires c κs = search needs
@@ -14,23 +35,23 @@ refused-requires c κs = search needs
 
 returns : tie.Need-returns
 unfolding reading
-returns c = rw (← c .before .before .before .locate .ensures .checked, ne-eqb _ _ (c .before .if1 .taken), c .refused .ensures)
+returns c = rw (← checked-is (c .before .before .before), ne-eqb _ _ (c .before .if1 .taken), c .refused .ensures)
 
-sub-component-in : tie.Need-sub-component-in
-sub-component-in c = search needs
+sub-read-part : tie.Need-sub-read-part
+sub-read-part c = let f = found (c .before .before .before) in omega arith
 
-part-component-in-start : tie.Need-part-component-in-start
-part-component-in-start c = search needs
+part-read-part-start : tie.Need-part-read-part-start
+part-read-part-start c = let f = found (c .before .before .before) in omega arith
 
-part-component-in-end : tie.Need-part-component-in-end
-part-component-in-end c = search needs
+part-read-part-end : tie.Need-part-read-part-end
+part-read-part-end c = let f = found (c .before .before .before) in omega arith
 
-component-in-requires : tie.Need-component-in-requires
-component-in-requires c κs = search needs
+read-part-requires : tie.Need-read-part-requires
+read-part-requires c κs = search needs
 
 returns-2 : tie.Need-returns-2
 unfolding reading partOf
-returns-2 c = rw (← c .before .before .before .before .before .locate .ensures .span, ← c .before .before .before .before .before .locate .ensures .checked, eq-eqb _ _ (c .before .before .before .if1 .left), c .component-in .ensures)
+returns-2 c = rw (← span-is (c .before .before .before .before .before), ← checked-is (c .before .before .before .before .before), eq-eqb _ _ (c .before .before .before .if1 .left), c .read-part .ensures)
 
 pub read-component-spec : {M : Type 1} → statement M
 read-component-spec =
@@ -39,8 +60,8 @@ read-component-spec =
     locate-requires
     refused-requires
     returns
-    sub-component-in
-    part-component-in-start
-    part-component-in-end
-    component-in-requires
+    sub-read-part
+    part-read-part-start
+    part-read-part-end
+    read-part-requires
     returns-2)

@@ -1,41 +1,74 @@
 -- The loop's invariant: the tasks read so far, and those still to be read from the place reached, are all the tasks.
-use lib.ListN.{length-drop}
-use Rattle.sheet.proofs.WalkLaws.{rest-is}
 use native.Mathlib.Omega.{arith}
+use Rattle.transfer.specs.Reading.{taskThen}
 use borrow.Author.Needs.{needs}
-use Rattle.transfer.proofs.ReadLaws.{Taking, taking-none, taking-more, taken}
+use Rattle.transfer.proofs.ReadLaws.{Taking, taking-none, taking-more, taken-short, taken, room-here}
 use Rattle.transfer.proofs.read.read_tasks.Statement.{statement}
 use Rattle.transfer.proofs.read.read_tasks.Tie as tie
 
 abbrev Inv-loop : tie.InvT-loop
-Inv-loop part start count table₀ place₀ left₀ table place left = Taking part start count table place left
+Inv-loop part start table₀ place₀ left₀ table place left = Taking part start table place left
 
 abbrev μ-loop : tie.MeasureT-loop
-μ-loop part start count table₀ place₀ left₀ table place left = left
+μ-loop part start table₀ place₀ left₀ table place left = left
 
 no-tasks-requires : tie.Need-no-tasks-requires Inv-loop μ-loop
 no-tasks-requires c κs = tt
 
 loop-holds : tie.Need-loop-holds Inv-loop μ-loop
-loop-holds c = let a = c .before .before .args in taking-none (a .part .now) (a .start) (a .count) (c .before .before .pre .1) (c .no-tasks .result) (c .no-tasks .ensures)
+loop-holds c = let a = c .before .before .args in taking-none (a .part .now) (a .start) (c .no-tasks .result) (c .no-tasks .ensures) (c .before .before .pre)
 
-sub-task-at : tie.Need-sub-task-at Inv-loop μ-loop
-sub-task-at c = omega arith
+sub-record-of : tie.Need-sub-record-of Inv-loop μ-loop
+sub-record-of c = omega arith
 
-part-task-at-start : tie.Need-part-task-at-start Inv-loop μ-loop
-part-task-at-start c = omega arith
+part-record-of-start : tie.Need-part-record-of-start Inv-loop μ-loop
+part-record-of-start c = omega arith
 
-part-task-at-end : tie.Need-part-task-at-end Inv-loop μ-loop
-part-task-at-end c = search needs
+part-record-of-end : tie.Need-part-record-of-end Inv-loop μ-loop
+part-record-of-end c = search needs
 
-task-at-requires : tie.Need-task-at-requires Inv-loop μ-loop
-task-at-requires c κs = rw (rest-is (c .before .before .before .before .before .args .part .now) (c .before .before .loop .place), length-drop) (omega arith)
+record-of-requires : tie.Need-record-of-requires Inv-loop μ-loop
+record-of-requires c κs = tt
+
+enum-known-record : tie.Need-enum-known-record Inv-loop μ-loop
+enum-known-record c = search needs
+
+enum-told : tie.Need-enum-told Inv-loop μ-loop
+enum-told c = search needs
+
+enum-told-2 : tie.Need-enum-told-2 Inv-loop μ-loop
+enum-told-2 c = search needs
+
+enum-told-3 : tie.Need-enum-told-3 Inv-loop μ-loop
+enum-told-3 c = search needs
+
+-- any other record ends the tasks
+returns : tie.Need-returns Inv-loop μ-loop
+unfolding taskThen
+returns c = let a = c .before .before .before .before .before .before .before .before .args in let l = c .before .before .before .before .before .loop in
+    taken-short (a .part .now) (a .start) (l .table) (l .place) (l .left) (l .inv) (c .before .before .before .before .loop-test .taken) (c .before .before .record-of .result) (c .before .before .record-of .ensures) (λ ks. rw (c .enum-told .given .1))
+
+returns-2 : tie.Need-returns-2 Inv-loop μ-loop
+unfolding taskThen
+returns-2 c = let a = c .before .before .before .before .before .before .before .before .args in let l = c .before .before .before .before .before .loop in
+    taken-short (a .part .now) (a .start) (l .table) (l .place) (l .left) (l .inv) (c .before .before .before .before .loop-test .taken) (c .before .before .record-of .result) (c .before .before .record-of .ensures) (λ ks. rw (c .enum-told2 .given .1))
+
+returns-3 : tie.Need-returns-3 Inv-loop μ-loop
+unfolding taskThen
+returns-3 c = let a = c .before .before .before .before .before .before .before .before .args in let l = c .before .before .before .before .before .loop in
+    taken-short (a .part .now) (a .start) (l .table) (l .place) (l .left) (l .inv) (c .before .before .before .before .loop-test .taken) (c .before .before .record-of .result) (c .before .before .record-of .ensures) (λ ks. rw (c .enum-told3 .given .1))
 
 append-requires : tie.Need-append-requires Inv-loop μ-loop
 append-requires c κs = tt
 
+size-of-requires : tie.Need-size-of-requires Inv-loop μ-loop
+size-of-requires c κs = tt
+
 add-place : tie.Need-add-place Inv-loop μ-loop
-add-place c = omega arith
+add-place c = let a = c .before .before .before .before .before .before .before .before .before .before .before .args in
+    let l = c .before .before .before .before .before .before .before .before .loop in
+    let h = room-here (a .part .now) (a .start) (l .table) (l .place) _ _ _ (c .before .before .before .before .before .record-of .ensures) (c .before .before .before .«record» .given .1) (c .size-of .ensures) (l .inv .here) in
+    omega arith
 
 sub-left : tie.Need-sub-left Inv-loop μ-loop
 sub-left c = omega arith
@@ -44,12 +77,14 @@ loop-less : tie.Need-loop-less Inv-loop μ-loop
 loop-less c = omega arith
 
 loop-again : tie.Need-loop-again Inv-loop μ-loop
-loop-again c = let a = c .before .before .before .before .before .before .before .args in let l = c .before .before .before .before .loop in
-    taking-more (a .part .now) (a .start) (a .count) (c .before .before .before .before .before .before .before .pre .1) (l .table) (l .place) (l .left) (l .inv) (c .before .before .before .loop-test .taken) (c .before .task-at .result) (c .append .result) (c .before .task-at .ensures) (c .append .ensures)
+loop-again c = let a = c .before .before .before .before .before .before .before .before .before .before .before .args in
+    let l = c .before .before .before .before .before .before .before .before .loop in
+    taking-more (a .part .now) (a .start) (l .table) (l .place) _ _ _ (c .before .before .before .before .before .record-of .ensures) (c .before .before .before .«record» .given .1) (c .size-of .ensures)
+    (l .left) (l .inv) (c .before .before .before .before .before .before .before .loop-test .taken) _ (c .before .append .ensures)
 
-returns : tie.Need-returns Inv-loop μ-loop
-returns c = let a = c .before .before .before .before .args in let l = c .before .loop in
-    taken (a .part .now) (a .start) (a .count) (c .before .before .before .before .pre .1) (l .table) (l .place) (l .left) (l .inv) (c .loop-test .left)
+returns-4 : tie.Need-returns-4 Inv-loop μ-loop
+returns-4 c = let a = c .before .before .before .before .args in let l = c .before .loop in
+    taken (a .part .now) (a .start) (l .table) (l .place) (l .left) (l .inv) (c .loop-test .left)
 
 pub read-tasks-spec : {M : Type 1} → statement M
 read-tasks-spec =
@@ -59,13 +94,21 @@ read-tasks-spec =
     μ-loop
     no-tasks-requires
     loop-holds
-    sub-task-at
-    part-task-at-start
-    part-task-at-end
-    task-at-requires
+    sub-record-of
+    part-record-of-start
+    part-record-of-end
+    record-of-requires
+    enum-known-record
+    enum-told
+    returns
+    enum-told-2
+    returns-2
+    enum-told-3
+    returns-3
     append-requires
+    size-of-requires
     add-place
     sub-left
     loop-less
     loop-again
-    returns)
+    returns-4)

@@ -1,0 +1,31 @@
+// A sheet's contents in one walk: what it is answered, and the edges between its components.
+use crate::check::Checked;
+use crate::check::checked_of;
+use crate::walk::walk;
+use budget::refusal;
+ghost use mathlib.Core.Path.{_≡_};
+ghost use Rattle.sheet.specs.Contents.{contentsOf};
+
+// The component at place k lies from edge k to edge k + 1; the places behind the last edge are 0, and all are where refused.
+pub struct Contents {
+    pub checked: Checked,
+    pub edges: [usize; 257],
+}
+
+// Judges a sheet and finds all its components.
+pub fn contents_of(sheet: &[u8]) -> Contents
+    ensures { λ r. ⌜ r ≡ contentsOf (now (sheet .entry)) ⌝ }
+{
+    let found = walk(sheet);
+    let state = found.state;
+    let checked = checked_of(state);
+    let refused = checked.refusal;
+    if refused != refusal::NONE {
+        return Contents {
+            checked,
+            edges: [0usize; 257],
+        };
+    }
+    let edges = found.edges;
+    Contents { checked, edges }
+}
