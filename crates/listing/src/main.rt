@@ -43,7 +43,10 @@ fn print_listing(sheet: &[u8]) {
     let mut page = [0u8; 16448];
     let n = listing(sheet, &mut page);
     if !io::write_all(STDOUT_FILENO, &page[..n]) {
-        io::write_all(STDERR_FILENO, b"listing: standard output can't be written\n");
+        io::write_all(
+            STDERR_FILENO,
+            b"listing: standard output can't be written\n",
+        );
     }
 }
 

@@ -5,13 +5,13 @@ use crate::lines::put_refused;
 use crate::text::Line;
 use budget::component::Component;
 use budget::refusal;
-use sheet::check::check_sheet;
-use transfer::read::read_component;
+use sheet::contents::contents_of;
+use transfer::read::read_at;
 ghost use Prim.Native.Nat.{_+_, _≤_};
 ghost use lib.ListN.{length, take};
 ghost use Rattle.report.specs.Lines.{componentLine, endLine, refusedLine};
 ghost use Rattle.report.specs.Listing.{Listed};
-ghost use Rattle.report.specs.inner.Paged.{Lines, Paged};
+ghost use Rattle.report.specs.inner.Paged.{Known, Lines, Paged};
 
 // Room for the longest listing: 256 components and the end, a line of at most 64 bytes each.
 pub type Page = [u8; 16448];
@@ -56,32 +56,33 @@ fn add_refused(page: &mut Page, number: u16, place: usize) -> usize
     put_line(page, 0, &line, n)
 }
 
-// The lines of the components, in their order.
-fn add_components(sheet: &[u8], count: usize, page: &mut Page) -> usize
-    requires { ⌜ count ≤ 256 ⌝ }
+// The lines of the components in their order, each read between its edges.
+fn add_components(sheet: &[u8], edges: &[usize; 257], count: usize, page: &mut Page) -> usize
+    requires { ⌜ Known (now sheet) (now edges) count ⌝ }
     ensures { λ r. ⌜ Lines (now (sheet .entry)) (now (page .entry)) count (now (page .exit)) r ⌝ }
 {
     let mut at = 0;
     let mut k = 0;
     while k < count {
-        let reading = read_component(sheet, k);
-        let component = reading.component;
+        let component = read_at(sheet, edges, k);
         at = add_component(page, at, component);
         k += 1;
     }
     at
 }
 
-// Puts the listing of a sheet at the front of a page, and answers its length.
+// Puts the listing of a sheet at the front of a page, and answers its length. The sheet is walked once.
 pub fn listing(sheet: &[u8], page: &mut Page) -> usize
     ensures { λ r. ⌜ Listed (now (sheet .entry)) (now (page .entry)) (now (page .exit)) r ⌝ }
 {
-    let checked = check_sheet(sheet);
+    let contents = contents_of(sheet);
+    let checked = contents.checked;
     let number = checked.refusal;
     if number != refusal::NONE {
         return add_refused(page, number, checked.place);
     }
     let count = checked.count;
-    let at = add_components(sheet, count, page);
+    let edges = contents.edges;
+    let at = add_components(sheet, &edges, count, page);
     add_end(page, at, count)
 }

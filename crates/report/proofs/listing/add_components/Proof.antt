@@ -2,27 +2,26 @@
 use Prim.Native.Nat.{_≤_, _-_}
 use native.Mathlib.Omega.{arith}
 use borrow.Author.Needs.{needs}
-use mathlib.Core.Path.{_≡_, ap}
-use Rattle.transfer.specs.declared.read.Reading.{Reading}
+use mathlib.Core.Path.{_≡_}
 use Rattle.report.specs.inner.Paged.{Lines}
-use Rattle.report.proofs.Pages.{no-lines, one-more-line}
+use Rattle.report.proofs.Pages.{known-few, known-reading, no-lines, one-more-line}
 use Rattle.report.proofs.listing.add_components.Statement.{statement}
 use Rattle.report.proofs.listing.add_components.Tie as tie
 
 abbrev Inv-loop : tie.InvT-loop
-Inv-loop sheet count page₀ at₀ k₀ page at k = (k ≤ count) × Lines sheet page₀ k page at
+Inv-loop sheet edges count page₀ at₀ k₀ page at k = (k ≤ count) × Lines sheet page₀ k page at
 
 abbrev μ-loop : tie.MeasureT-loop
-μ-loop sheet count page₀ at₀ k₀ page at k = count - k
+μ-loop sheet edges count page₀ at₀ k₀ page at k = count - k
 
 loop-holds : tie.Need-loop-holds Inv-loop μ-loop
 loop-holds c = (omega arith, no-lines _ _)
 
-read-component-requires : tie.Need-read-component-requires Inv-loop μ-loop
-read-component-requires c κs = search needs
+read-at-requires : tie.Need-read-at-requires Inv-loop μ-loop
+read-at-requires c κs = search needs
 
 add-component-requires : tie.Need-add-component-requires Inv-loop μ-loop
-add-component-requires c κs = omega (arith, c .before .before .before .before .loop .inv .1 .room)
+add-component-requires c κs = omega (arith, c .before .before .before .loop .inv .1 .room, known-few (c .before .before .before .before .before .pre))
 
 add-k : tie.Need-add-k Inv-loop μ-loop
 add-k c = omega arith
@@ -32,8 +31,9 @@ loop-less c = omega arith
 
 loop-again : tie.Need-loop-again Inv-loop μ-loop
 loop-again c =
-    let l = c .before .before .before .before .before .loop in
-    (omega arith, one-more-line _ _ (l .k) _ (ap (λ (x : Reading). x .component) (c .before .before .before .read-component .ensures)) (l .inv .1) (c .add-component .ensures))
+    let l = c .before .before .before .before .loop in
+    let read = c .before .before .read-at in
+    (omega arith, one-more-line _ _ (l .k) _ (known-reading (c .before .before .before .before .before .before .pre) (l .k) (omega arith) (read .result) (read .ensures)) (l .inv .1) (c .add-component .ensures))
 
 returns : tie.Need-returns Inv-loop μ-loop
 returns c = let all : c .before .loop .k ≡ c .before .before .before .args .count = omega arith in rw all at (c .before .loop .inv .1)
@@ -45,7 +45,7 @@ add-components-spec =
     Inv-loop
     μ-loop
     loop-holds
-    read-component-requires
+    read-at-requires
     add-component-requires
     add-k
     loop-less
