@@ -1,42 +1,52 @@
-// Prints the listing of the sheet on standard input (RULES 15). What the listing says is decided by `report::listing::listing`; here bytes are only read
-// and written, and a reading or writing that fails is told on standard error and never printed as a listing.
+// Prints the listing of the sheet on standard input (RULES 15). What it says is decided by `report::listing::listing`; here bytes are only read and
+// written. A read or a write that fails is told on standard error, and is never printed as a listing.
 use libc::STDERR_FILENO;
 use libc::STDIN_FILENO;
 use libc::STDOUT_FILENO;
 use report::listing::listing;
+ghost use Prim.Native.Nat.{_+_, _≤_};
+ghost use lib.ListN.{length};
+ghost use Rattle.io.specs.Counts.{Counts};
 
-// What was read: so many bytes to the input's end or until the row is full, or a failure.
-enum Input {
-    Read(usize),
-    Failed,
+// What was read: so many bytes, or a failure.
+pub struct Input {
+    pub count: usize,
+    pub failed: bool,
 }
 
-// One read behind what is held: the bytes held then, the row's length and one more where the read failed.
-fn read_more(row: &mut [u8], held: usize) -> Input {
-    if held > row.len() {
-        return Input::Failed;
-    }
+// Reads once behind the bytes held.
+fn read_behind(row: &mut [u8], held: usize) -> Input
+    requires { ⌜ held ≤ length (now row) ⌝ }
+    ensures { λ r. ⌜ held + r .count ≤ length (now (row .exit)) ⌝ }
+{
     let rest = &mut row[held..];
     let got = libc::read(STDIN_FILENO, rest);
-    if got < 0 {
-        return Input::Failed;
+    let count = io::count(got, rest);
+    Input {
+        count,
+        failed: got < 0,
     }
-    Input::Read(io::count(got, rest))
 }
 
 // Reads until the row is full or the input ends.
-fn read_sheet(row: &mut [u8]) -> Input {
+fn read_sheet(row: &mut [u8]) -> Input
+    ensures { λ r. ⌜ Counts (r .count) (now (row .exit)) ⌝ }
+{
     let mut held = 0;
     while held < row.len() {
-        let Input::Read(n) = read_more(row, held) else {
-            return Input::Failed;
-        };
-        if n == 0 {
-            return Input::Read(held);
+        let input = read_behind(row, held);
+        if input.failed {
+            return input;
         }
-        held += n;
+        if input.count == 0 {
+            break;
+        }
+        held += input.count;
     }
-    Input::Read(held)
+    Input {
+        count: held,
+        failed: false,
+    }
 }
 
 fn print_listing(sheet: &[u8]) {
@@ -54,10 +64,10 @@ fn print_listing(sheet: &[u8]) {
 fn main() {
     let mut row = [0u8; 65537];
     let input = read_sheet(&mut row);
-    match input {
-        Input::Read(n) => print_listing(&row[..n]),
-        Input::Failed => {
-            io::write_all(STDERR_FILENO, b"listing: standard input can't be read\n");
-        }
+    if input.failed {
+        io::write_all(STDERR_FILENO, b"listing: standard input can't be read\n");
+        return;
     }
+    let n = input.count;
+    print_listing(&row[..n]);
 }
