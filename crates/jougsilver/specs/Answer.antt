@@ -1,4 +1,4 @@
--- The reply on one component (01, "The host's calls"), from what the judge answers.
+-- The reply on one component (RULES 14), from what the judge answers.
 use Prim.Native.Nat.{ℕ}
 use mathlib.Core.Bool.{cond}
 use mathlib.Core.List.{List}
@@ -32,7 +32,7 @@ abbrev pub verdictIn : Judged → Verdict
 verdictIn (Refused n) = Variant.None
 verdictIn (Answered u v) = v
 
--- "component number, code .., capacity, first short instant, margin (signed), margin instant"; "margin instant 0 says no margin"
+-- the fields in the reply's order; a margin instant of 0 stands where there is no margin
 unfoldable pub replyOf : ℕ → Judged → Margined → Reply
 replyOf number j m =
     record {
@@ -48,11 +48,11 @@ replyOf number j m =
 unfoldable pub replyOn : Component → List ℕ
 replyOn c = replyBytes (replyOf (c .number) (verdictAnswer c) (marginAnswer c))
 
--- "10, 11": the component's own refusal comes first, then that of the room
+-- the component's own refusal comes before that of the room (RULES 13)
 unfoldable pub answerRefusal : Component → ℕ → ℕ → ℕ
 answerRefusal c room at = cond (eqb (componentRefusal c) refusal.none) (roomRefusal room at 24) (componentRefusal c)
 
--- 'Unused fields are 0, for "none" all four': the reply on a component that is answered none
+-- a component that is answered none has a number and a code, and zeros behind them
 abbrev pub noneReply : ℕ → Reply
 noneReply number =
     record {

@@ -1,4 +1,4 @@
--- What the host's calls answer and write (01, "The host's calls").
+-- What the host's calls answer and write (RULES 14).
 use Prim.Native.Nat.{ℕ}
 use mathlib.Core.Bool.{cond}
 use mathlib.Core.List.{List}
@@ -10,7 +10,7 @@ use Rattle.transfer.specs.Reading.{reading}
 use Rattle.transfer.specs.Reply.{checkedBytes}
 use Rattle.transfer.specs.Writing.{roomRefusal}
 
--- "Host call: sheet, 15, 10, 11": reading the component at a place is refused by the sheet's number or 15, judging it by 10, writing the reply by 11
+-- the order of refusals (RULES 13): reading the component at a place is refused by the sheet's number or 15, judging it by 10, writing the reply by 11
 unfoldable pub hostRefusal : List ℕ → ℕ → ℕ → ℕ → ℕ
 hostRefusal s place room at =
     cond (eqb (reading s place .refusal) refusal.none)
@@ -25,6 +25,6 @@ hostReply s place = replyOn (reading s place .component)
 abbrev pub checkReply : List ℕ → List ℕ
 checkReply s = checkedBytes (check s)
 
--- a check refuses nothing but "too little room, a place past the buffer"
+-- a check refuses nothing but the want of room
 abbrev pub checkRefusal : ℕ → ℕ → ℕ
 checkRefusal room at = roomRefusal room at 12

@@ -1,8 +1,6 @@
--- The lines of the listing (01, "The listing program"), as lists of bytes.
+-- The lines of the listing (RULES 15), as lists of bytes.
 use Prim.Native.Nat.{ℕ}
-use mathlib.Core.Bool.{cond}
 use mathlib.Core.List.{List, [], _∷_, _++_}
-use lib.Dec.{ltb, eqb}
 use Rattle.budget.specs.declared.component.Component.{Component}
 use Rattle.budget.specs.declared.quantity.Units.{Units}
 use Rattle.judge.specs.declared.answer.Judged.{Judged}
@@ -11,11 +9,8 @@ use Rattle.judge.specs.declared.answer.Margined.{Margined}
 use Rattle.judge.specs.declared.answer.Margined.the-variants as Margined
 use Rattle.judge.specs.declared.answer.Verdict.{Verdict}
 use Rattle.judge.specs.declared.answer.Verdict.the-variants as Verdict
-use Rattle.budget.specs.Refusal as refusal
 use Rattle.judge.specs.Judged.{verdictAnswer}
 use Rattle.judge.specs.Margin.{marginAnswer}
-use Rattle.sheet.specs.Check.{check}
-use Rattle.transfer.specs.Reading.{reading}
 use Rattle.report.specs.Text.{decimal, signedText, spaced}
 
 -- the fields behind a line's first, each behind a single space, and the newline
@@ -45,40 +40,31 @@ long-word = 108 ∷ 111 ∷ 110 ∷ 103 ∷ []
 abbrev pub dash-word : List ℕ
 dash-word = 45 ∷ []
 
--- "A refused sheet prints only `refused`, number, place"
+-- the one line of a refused sheet: the word, the refusal and the byte where the record begins
 unfoldable pub refusedLine : ℕ → ℕ → List ℕ
 refusedLine number place = refused-word ++ behind (decimal number ∷ decimal place ∷ [])
 
--- "margin, margin instant (`-` twice with no tasks)"
+-- the margin and its instant, or a dash for each where there is no margin
 unfoldable pub marginFields : Margined → List (List ℕ)
 marginFields (Margined.Least margin instant) = signedText margin ∷ decimal (instant .0) ∷ []
 marginFields (Margined.Refused number) = dash-word ∷ dash-word ∷ []
 marginFields Margined.None = dash-word ∷ dash-word ∷ []
 
--- "`accepted`, capacity, margin, margin instant ..; or `short`, capacity, first short instant, margin, margin instant; or `none`"
+-- the word, the capacity it speaks of, a short one's first short instant, and the margin; `none` stands alone
 unfoldable pub verdictFields : Units → Verdict → Margined → List (List ℕ)
 verdictFields capacity Verdict.Accepted margined = accepted-word ∷ decimal (capacity .0) ∷ marginFields margined
 verdictFields capacity (Verdict.Short instant) margined = short-word ∷ decimal (capacity .0) ∷ decimal (instant .0) ∷ marginFields margined
 verdictFields capacity Verdict.None margined = none-word ∷ []
 
--- "or `long` for refusal 10": the only refusal of a component that stands in a sheet
+-- a component that the judge refuses is long: 10 is the only refusal of one that stands in a taken sheet (OnlyLong)
 unfoldable pub answerFields : Judged → Margined → List (List ℕ)
 answerFields (Judged.Refused number) margined = long-word ∷ []
 answerFields (Judged.Answered capacity verdict) margined = verdictFields capacity verdict margined
 
--- "one line a component: number; .."
+-- a component's line begins with its number
 unfoldable pub componentLine : Component → List ℕ
 componentLine c = decimal (c .number) ++ behind (answerFields (verdictAnswer c) (marginAnswer c))
 
--- "Then `end` and the count"
+-- the last line of a taken sheet
 unfoldable pub endLine : ℕ → List ℕ
 endLine count = end-word ++ behind (decimal count ∷ [])
-
--- the line of a sheet's listing that stands at an index, from 0: the one line of a refused sheet; else the components' in their order, then the
--- end's. Past the last there is nothing
-unfoldable pub lineAt : List ℕ → ℕ → List ℕ
-lineAt s index =
-    cond (eqb (check s .refusal) refusal.none)
-    (cond (ltb index (check s .count)) (componentLine (reading s index .component))
-    (cond (eqb index (check s .count)) (endLine (check s .count)) []))
-    (cond (eqb index 0) (refusedLine (check s .refusal) (check s .place)) [])

@@ -1,4 +1,4 @@
--- "or `long` for refusal 10": a component that stands in an accepted sheet has no other refusal, so a line says `long` for that one only.
+-- A line says `long` for refusal 10 and for nothing else (RULES 15): a component that stands in a taken sheet has no other refusal.
 use Prim.Native.Nat.{ℕ, _<_}
 use mathlib.Core.List.{List}
 use mathlib.Core.Path.{_≡_}

@@ -1,12 +1,9 @@
--- Numbers as text, and what putting bytes into a line does.
-use Prim.Native.Nat.{ℕ, zero, suc, _+_, _/_, _%_, _≤_}
+-- Numbers as text.
+use Prim.Native.Nat.{ℕ, zero, suc, _+_, _/_, _%_}
 use mathlib.Core.Bool.{true, false}
 use mathlib.Core.List.{List, [], _∷_, _++_}
-use mathlib.Core.Path.{_≡_}
 use lib.Dec.{ltb}
 use lib.IntN.{ℤ, pos, negsuc}
-use lib.ListN.{length}
-use lib.Seq.{sets}
 
 -- a number's decimal digits in ASCII, the most significant first; as many steps as the number has units are enough, since it falls at each
 unfoldable pub digits : ℕ → ℕ → List ℕ
@@ -24,9 +21,3 @@ signedText (negsuc n) = 45 ∷ decimal (suc n)
 -- a field with the space before it
 abbrev pub spaced : List ℕ → List ℕ
 spaced field = 32 ∷ field
-
--- these bytes were put into a line of 64 from a place on, and the place behind them is answered
-pub record Put (before : List ℕ) (at : ℕ) (bytes after : List ℕ) (r : ℕ) : Type 0 where
-  pub place : r ≡ at + length bytes
-  pub line : after ≡ sets before at bytes
-  pub room : r ≤ 64

@@ -1,3 +1,4 @@
-// The listing's lines, as bytes: what a program prints for a sheet is decided here.
-pub mod lines;
+// The listing of a sheet, as bytes.
+mod lines;
+pub mod listing;
 mod text;

@@ -6,24 +6,20 @@ use crate::text::put_signed;
 use crate::text::put_word;
 use budget::component::Component;
 use budget::quantity::Units;
-use budget::refusal;
 use judge::answer::Judged;
 use judge::answer::Margined;
 use judge::answer::Verdict;
 use judge::margin::margin;
 use judge::verdict::verdict;
-use sheet::check::check_sheet;
-use transfer::read::read_component;
 ghost use mathlib.Core.Path.{_≡_};
 ghost use Prim.Native.Nat.{_+_, _≤_};
-ghost use lib.ListN.{length};
-ghost use lib.Seq.{sets};
 ghost use mathlib.Core.List.{[], _∷_, _++_};
-ghost use Rattle.report.specs.Text.{Put, decimal, signedText};
-ghost use Rattle.report.specs.Lines.{behind, refusedLine, endLine, componentLine, lineAt, marginFields, verdictFields, answerFields, accepted-word, short-word};
+ghost use Rattle.report.specs.Text.{decimal, signedText};
+ghost use Rattle.report.specs.inner.Put.{Put};
+ghost use Rattle.report.specs.Lines.{behind, refusedLine, endLine, componentLine, marginFields, verdictFields, answerFields, accepted-word, short-word};
 
 // The one line of a refused sheet.
-fn put_refused(line: &mut Line, number: u16, place: usize) -> usize
+pub(crate) fn put_refused(line: &mut Line, number: u16, place: usize) -> usize
     ensures { λ r. ⌜ Put (now (line .entry)) 0 (refusedLine number place) (now (line .exit)) r ⌝ }
 {
     let word = put_word(line, 0, b"refused");
@@ -33,7 +29,7 @@ fn put_refused(line: &mut Line, number: u16, place: usize) -> usize
 }
 
 // The last line of a sheet that is not refused.
-fn put_end(line: &mut Line, count: usize) -> usize
+pub(crate) fn put_end(line: &mut Line, count: usize) -> usize
     ensures { λ r. ⌜ Put (now (line .entry)) 0 (endLine count) (now (line .exit)) r ⌝ }
 {
     let word = put_word(line, 0, b"end");
@@ -119,36 +115,10 @@ fn put_numbered(line: &mut Line, number: u16, judged: Judged, margined: Margined
 }
 
 // The line of one component.
-fn put_component(line: &mut Line, component: Component) -> usize
+pub(crate) fn put_component(line: &mut Line, component: Component) -> usize
     ensures { λ r. ⌜ Put (now (line .entry)) 0 (componentLine component) (now (line .exit)) r ⌝ }
 {
     let judged = verdict(component);
     let margined = margin(component);
     put_numbered(line, component.number, judged, margined)
-}
-
-// Puts the line of a sheet's listing that stands at an index, from 0, and answers its length with the newline; past the last line nothing is put.
-pub fn listing_line(sheet: &[u8], index: usize, line: &mut Line) -> usize
-    ensures { λ r. ⌜ r ≡ length (lineAt (now (sheet .entry)) index) ⌝ }
-    ensures { λ r. ⌜ now (line .exit) ≡ sets (now (line .entry)) 0 (lineAt (now (sheet .entry)) index) ⌝ }
-    ensures { λ r. ⌜ r ≤ 64 ⌝ }
-{
-    let checked = check_sheet(sheet);
-    let number = checked.refusal;
-    let count = checked.count;
-    if number != refusal::NONE {
-        if index == 0 {
-            return put_refused(line, number, checked.place);
-        }
-        return 0;
-    }
-    if index < count {
-        let reading = read_component(sheet, index);
-        let component = reading.component;
-        return put_component(line, component);
-    }
-    if index == count {
-        return put_end(line, count);
-    }
-    0
 }

@@ -4,7 +4,8 @@ use judge::signed::magnitude;
 ghost use mathlib.Core.Path.{_≡_};
 ghost use Prim.Native.Nat.{ℕ, _+_, _≤_, _<_};
 ghost use lib.ListN.{length};
-ghost use Rattle.report.specs.Text.{Put, decimal, signedText, spaced};
+ghost use Rattle.report.specs.Text.{decimal, signedText, spaced};
+ghost use Rattle.report.specs.inner.Put.{Put};
 
 // Room for the longest line.
 pub type Line = [u8; 64];

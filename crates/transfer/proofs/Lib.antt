@@ -4,4 +4,5 @@ pub mod ReadsBack
 pub mod Shape
 pub mod RoundTrips
 pub mod ReadLaws
+pub mod ReadAt
 pub mod ReplyLaws

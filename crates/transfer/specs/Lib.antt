@@ -1,4 +1,5 @@
 pub mod Writing
 pub mod Reading
+pub mod ReadAt
 pub mod RoundTrip
 pub mod Reply

@@ -9,12 +9,14 @@ use record::layout::Head;
 use record::layout::Record;
 use record::layout::record_of;
 use record::write::size_of;
+use sheet::check::MOST_COMPONENTS;
 use sheet::part::locate;
 ghost use mathlib.Core.Path.{_≡_};
 ghost use Prim.Native.Nat.{_≤_};
 ghost use lib.ListN.{length, drop};
 ghost use Rattle.budget.specs.Task.{tableOf};
 ghost use Rattle.record.specs.Layout.{sizeOf, recordOf};
+ghost use Rattle.transfer.specs.ReadAt.{readAt};
 ghost use Rattle.transfer.specs.Reading.{tasksIn, componentFrom, reading};
 
 // What a reading answers; refused: the component number 0, stated (1, 1, 1), without tasks.
@@ -116,4 +118,22 @@ pub fn read_component(sheet: &[u8], place: usize) -> Reading
         place: checked.place,
         component,
     }
+}
+
+// Reads the component at a place of a sheet whose edges are known, without another walk. Edges that do not lie in the sheet in their order hold none.
+pub fn read_at(sheet: &[u8], edges: &[usize; 257], place: usize) -> Component
+    ensures { λ r. ⌜ r ≡ readAt (now (sheet .entry)) (now (edges .entry)) place ⌝ }
+{
+    if MOST_COMPONENTS <= place {
+        return refused();
+    }
+    let from = edges[place];
+    let to = edges[place + 1];
+    if to < from {
+        return refused();
+    }
+    if sheet.len() < to {
+        return refused();
+    }
+    read_part(&sheet[from..to])
 }

@@ -5,7 +5,8 @@ use native.Mathlib.Omega.{arith}
 use mir.Syntax.{w32}
 use mir.ValLaws.{toZ-ofZ}
 use Rattle.report.specs.Lines.{behind}
-use Rattle.report.specs.Text.{Put, signedText, spaced}
+use Rattle.report.specs.Text.{signedText, spaced}
+use Rattle.report.specs.inner.Put.{Put}
 use Rattle.report.proofs.Digits.{digits-32}
 use Rattle.report.proofs.Puts.{put-then}
 use Rattle.report.proofs.SignedText.{signed-length}
