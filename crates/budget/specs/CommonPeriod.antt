@@ -1,6 +1,6 @@
 -- L, the least common multiple of Π and all T (01, "Numbers and components").
 use Prim.Native.Nat.{ℕ, zero, suc, _*_, _/_, _%_}
-use mathlib.Core.Bool.{Bool, true, false}
+use mathlib.Core.Bool.{true, false}
 use mathlib.Core.List.{List, [], _∷_}
 use lib.Dec.{eqb}
 use Rattle.budget.specs.declared.task.Task.{Task}

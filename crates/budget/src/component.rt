@@ -1,4 +1,3 @@
-use crate::common_period::common_period;
 use crate::interface::Interface;
 use crate::interface::check_interface;
 use crate::quantity::Time;
@@ -8,7 +7,7 @@ use crate::task::Table;
 use crate::task::check_table;
 use crate::task::no_tasks;
 ghost use mathlib.Core.Path.{_≡_};
-ghost use Rattle.budget.specs.Component.{refused, interfaceOf, rangeRefusal, componentRefusal};
+ghost use Rattle.budget.specs.Component.{refused, interfaceOf, rangeRefusal};
 
 // A component's capacity is either stated or asked.
 pub enum Capacity {
@@ -74,11 +73,4 @@ pub fn check_ranges(component: Component) -> u16
         return refused;
     }
     check_interface(interface_of(component))
-}
-
-// The refusal of a component: 6, 9, and 10 where its common period is too long.
-pub fn check_component(component: Component) -> u16
-    ensures { λ r. ⌜ r ≡ componentRefusal component ⌝ }
-{
-    common_period(component).refusal
 }

@@ -1,6 +1,6 @@
 -- The run (01, "The run"), begun with no work waiting: which job each slot serves, and the work left at each instant.
 -- No limit on jobs or slots.
-use Prim.Native.Nat.{ℕ, zero, suc, _+_, _-_, _<_}
+use Prim.Native.Nat.{ℕ, zero, suc, _-_, _<_}
 use mathlib.Core.Bool.{Bool, cond, not, _&&_, _||_}
 use mathlib.Core.List.{List, [], _∷_, map}
 use mathlib.Core.Path.{_≡_}

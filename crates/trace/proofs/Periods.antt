@@ -8,7 +8,7 @@ use mathlib.Core.Logic.{_↔_}
 use lib.ListN.{length, getD, List·getD-eq-default}
 use lib.Dec.{ltb, leb}
 use borrow.Author.Tests.{lt-ltb, le-ltb, leb-true}
-use native.Mathlib.Nat.{not-suc-le-zero, le-refl, le-dest, add-sub-cancel-left}
+use native.Mathlib.Nat.{le-refl, le-dest, add-sub-cancel-left}
 use native.Mathlib.Decide.{decLe}
 use native.Mathlib.Omega.{arith}
 use Rattle.budget.specs.declared.interface.Interface.{Interface}
@@ -71,7 +71,3 @@ module _ (i : Interface) (v : ValidInterface i) (o : ℕ) (s : List ℕ) where
 
   pub every-period : Legal i o s ↔ ((k : ℕ) → Θ i ≤ units (counted o s) (k * Π i) (Δ i))
   every-period = (each-period, λ h k touched. h k)
-
--- an empty trace touches no period
-pub empty-legal : (i : Interface) (o : ℕ) → Legal i o []
-empty-legal i o k touched = absurd (not-suc-le-zero (touched .inside))

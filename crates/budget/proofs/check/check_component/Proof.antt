@@ -3,8 +3,8 @@ use mathlib.Core.Path.{ap}
 use Rattle.budget.specs.declared.common_period.CommonPeriod.{CommonPeriod}
 use Rattle.budget.specs.Component.{commonPeriodAnswer}
 use borrow.Author.Needs.{needs}
-use Rattle.budget.proofs.component.check_component.Statement.{statement}
-use Rattle.budget.proofs.component.check_component.Tie as tie
+use Rattle.budget.proofs.check.check_component.Statement.{statement}
+use Rattle.budget.proofs.check.check_component.Tie as tie
 
 common-period-requires : tie.Need-common-period-requires
 common-period-requires c κs = search needs
