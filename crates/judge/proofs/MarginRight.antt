@@ -24,9 +24,10 @@ use Rattle.budget.proofs.SupplyLaws.{supply-mono, supply-add}
 use Rattle.budget.proofs.Valid.{ValidInterface, valid-head}
 use Rattle.judge.specs.declared.answer.Margined.{Margined}
 use Rattle.judge.specs.declared.answer.Margined.the-variants as Variant
-use Rattle.judge.specs.Margin.{Step, Tightest, MarginSays, tightInstant, marginAt, marginOn, marginOf}
+use Rattle.judge.specs.Margin.{Step, Tightest, tightInstant, marginAt, marginOn, marginOf}
 use Rattle.judge.specs.Signed.{isNegative}
 use Rattle.judge.specs.Verdict.{Accepted, ShortAt, accepts}
+use Rattle.judge.specs.inner.MarginSays.{MarginSays}
 use Rattle.judge.proofs.Instants.{no-smaller}
 use Rattle.judge.proofs.MarginLaws.{tight-known}
 use Rattle.judge.proofs.VerdictLaws.{accepts-fits, short-refuses}

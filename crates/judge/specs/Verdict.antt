@@ -1,17 +1,12 @@
 -- The verdict (01, "Verdict").
 use Prim.Native.Nat.{ℕ, suc, _≤_, _<_}
-use mathlib.Core.Bool.{Bool, true, cond}
-use mathlib.Core.Path.{_≡_}
+use mathlib.Core.Bool.{Bool, cond}
 use mathlib.Core.List.{List}
 use lib.Dec.{ltb}
 use Rattle.budget.specs.declared.interface.Interface.{Interface}
-use Rattle.budget.specs.declared.task.Table.{Table}
 use Rattle.budget.specs.declared.task.Task.{Task}
 use Rattle.budget.specs.Demand.{demand}
-use Rattle.budget.specs.Interface.{validInterface}
-use Rattle.budget.specs.Limits.{limit, most-tasks}
 use Rattle.budget.specs.Supply.{supply}
-use Rattle.budget.specs.Task.{tasksOf, validTasks}
 use Rattle.judge.specs.declared.answer.Verdict.the-variants as Variant
 use Rattle.judge.specs.declared.answer.Verdict.{Verdict}
 use Rattle.judge.specs.Search.{smallest}
@@ -47,10 +42,3 @@ accepts ks i n = ltb n (firstShort ks i n)
 -- the verdict on a stated capacity, worked out over the instants up to L: "That instant, if any, is at most L"
 unfoldable pub verdictOn : List Task → Interface → ℕ → Verdict
 verdictOn ks i l = cond (accepts ks i l) Variant.Accepted (Variant.Short (record { 0 = firstShort ks i l }))
-
--- what a scan of the instants up to n is asked with: numbers in their ranges
-pub record Scannable (table : Table) (i : Interface) (n : ℕ) : Type 0 where
-  pub few : table .count ≤ most-tasks
-  pub tasks : validTasks (tasksOf table) ≡ true
-  pub interface : validInterface i ≡ true
-  pub bounded : n ≤ limit

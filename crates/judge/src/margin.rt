@@ -19,8 +19,8 @@ ghost use lib.IntN.{subℕ};
 ghost use Rattle.budget.specs.Component.{interfaceAt, commonPeriodOf};
 ghost use Rattle.budget.specs.Limits.{limit};
 ghost use Rattle.budget.specs.Task.{tasksOf};
-ghost use Rattle.judge.specs.Margin.{Triable, marginAnswer, marginOn, marginedAt, tightAt, tightInstant, tried};
-ghost use Rattle.judge.specs.Verdict.{Scannable};
+ghost use Rattle.judge.specs.Margin.{marginAnswer, marginOn, marginedAt, tightAt, tightInstant, tried};
+ghost use Rattle.judge.specs.inner.Scan.{Scannable, Triable};
 
 // The tightest step instant so far, with supply and demand there; instant 0 where there is none yet.
 pub struct Tight {

@@ -2,7 +2,7 @@
 use budget::task::Table;
 ghost use mathlib.Core.Path.{_≡_};
 ghost use Prim.Native.Nat.{min};
-ghost use Rattle.judge.specs.Steps.{Columned, Stepped, Steppable};
+ghost use Rattle.judge.specs.inner.Steps.{Columned, Stepped, Steppable};
 
 // A table's periods, works and next deadlines, task by task.
 pub struct Columns {

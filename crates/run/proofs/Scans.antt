@@ -13,10 +13,10 @@ use lib.Dec.{leb, ltb, eqb}
 use Rattle.budget.specs.declared.task.Task.{Task}
 use Rattle.budget.specs.Limits.{most-tasks}
 use Rattle.budget.proofs.Valid.{both}
-use Rattle.run.specs.Columns.{Deadlines, Tasks, Releases}
+use Rattle.run.specs.inner.Columns.{Deadlines, Tasks, Releases}
 use Rattle.run.specs.Job.{Job, deadline}
 use Rattle.run.specs.Run.{noJob, waits, goesBefore, headFirst, next}
-use Rattle.run.specs.Scan.{takesOver}
+use Rattle.run.specs.inner.Scan.{takesOver}
 use Rattle.run.specs.Walk.{late, lateTask}
 
 -- a column has as many numbers as there are jobs, and each is its job's

@@ -8,7 +8,7 @@ use borrow.Author.Tests.{eq-eqb, ne-eqb, lt-ltb, le-ltb}
 use Rattle.budget.specs.declared.task.Task.{Task}
 use Rattle.run.specs.Job.{Job}
 use Rattle.run.specs.Run.{next, serve, slot}
-use Rattle.run.specs.Scan.{Slotted}
+use Rattle.run.specs.inner.Scan.{Slotted}
 use Rattle.run.specs.Walk.{servedIn, idleIn}
 
 module _ (ks : List Task) (js : List Job) (n b : ℕ) (left : List ℕ) where

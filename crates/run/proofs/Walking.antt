@@ -11,12 +11,12 @@ use lib.ListN.{length, getD}
 use borrow.Author.Tests.{lt-ltb, le-ltb}
 use Rattle.budget.specs.declared.task.Task.{Task}
 use Rattle.budget.specs.Limits.{most-tasks}
-use Rattle.run.specs.Columns.{Works}
+use Rattle.run.specs.inner.Columns.{Works}
 use Rattle.run.specs.declared.walk.Miss.{Miss}
 use Rattle.run.specs.declared.walk.Walked.{Walked}
 use Rattle.run.specs.Job.{Job}
 use Rattle.run.specs.Run.{leftAt}
-use Rattle.run.specs.Scan.{Slotted}
+use Rattle.run.specs.inner.Scan.{Slotted}
 use Rattle.run.specs.Walk.{lateTask, missed, missOf, stopFrom, stop, servedBefore, idleBefore, walkedTo}
 
 pub record Walking (ks : List Task) (js : List Job) (s : List ℕ) (t : ℕ) (left : List ℕ) (served idle : ℕ) : Type 0 where

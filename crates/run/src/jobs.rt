@@ -9,10 +9,10 @@ ghost use lib.ListN.{length, getD, drop};
 ghost use Rattle.budget.specs.declared.task.Task.{Task};
 ghost use Rattle.budget.specs.Limits.{most-tasks};
 ghost use Rattle.budget.specs.Task.{T, D, noTask, tasksOf};
-ghost use Rattle.run.specs.Columns.{Tasks, Releases, Works};
+ghost use Rattle.run.specs.inner.Columns.{Tasks, Releases, Works};
 ghost use Rattle.run.specs.Job.{Job, taskOf, deadline, validJob, beforeAll, legalArrival};
 ghost use Rattle.run.specs.Run.{noJob};
-ghost use Rattle.run.specs.Scan.{follows};
+ghost use Rattle.run.specs.inner.Scan.{follows};
 ghost use Rattle.run.specs.Walk.{releasedBefore, validJobs};
 
 // The most jobs that a walk takes.

@@ -8,11 +8,11 @@ use Rattle.budget.specs.Demand.{demand}
 use Rattle.budget.specs.Limits.{limit}
 use Rattle.budget.specs.Task.{tasksOf}
 use Rattle.budget.proofs.Places.{length-mapped}
-use Rattle.judge.specs.Capacity.{Raised}
 use Rattle.judge.proofs.CapacityLaws.{Found, found-start, found-end, found-none, found-on, capacity-valid}
 use Rattle.judge.proofs.StepLaws.{Carried, Moved, carried-start, carried-steppable, carried-moved, carried-next}
 use Rattle.judge.proofs.capacity.least_capacity.Statement.{statement}
 use Rattle.judge.proofs.capacity.least_capacity.Tie as tie
+use Rattle.judge.specs.inner.Raise.{Raised}
 
 abbrev Inv-loop : tie.InvT-loop
 Inv-loop table period deadline length periods works due₀ last demand₀ at₀ capacity₀ due demand at capacity =

@@ -15,7 +15,7 @@ use Rattle.budget.specs.Task.{tasksOf}
 use Rattle.judge.specs.declared.answer.Margined.{Margined}
 use Rattle.judge.specs.declared.answer.Margined.the-variants as Variant
 use Rattle.judge.specs.Margin.{marginOn, marginedAt, marginAnswer}
-use Rattle.judge.specs.Verdict.{Scannable}
+use Rattle.judge.specs.inner.Scan.{Scannable}
 use Rattle.judge.proofs.Whole.{refused, length-is, scannable, stated-fits, answer-refused, answer-given}
 use Rattle.judge.proofs.margin.margin.Statement.{statement}
 use Rattle.judge.proofs.margin.margin.Tie as tie

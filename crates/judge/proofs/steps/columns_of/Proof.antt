@@ -6,7 +6,7 @@ use native.Mathlib.Omega.{arith}
 use borrow.Author.Needs.{needs}
 use Rattle.budget.specs.declared.task.Task.{Task}
 use Rattle.budget.specs.Task.{T, C, D}
-use Rattle.judge.specs.Steps.{Column}
+use Rattle.judge.specs.inner.Steps.{Column}
 use Rattle.judge.proofs.StepLoops.{column-none, column-more}
 use Rattle.judge.proofs.steps.columns_of.Statement.{statement}
 use Rattle.judge.proofs.steps.columns_of.Tie as tie

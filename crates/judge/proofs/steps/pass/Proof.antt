@@ -5,7 +5,7 @@ use mathlib.Core.Logic.{⊎-elim}
 use native.Mathlib.Omega.{arith}
 use borrow.Author.Needs.{needs}
 use Rattle.budget.specs.Limits.{limit}
-use Rattle.judge.specs.Steps.{Passed}
+use Rattle.judge.specs.inner.Steps.{Passed}
 use Rattle.judge.proofs.StepLoops.{passed-none, passed-due, passed-later}
 use Rattle.judge.proofs.steps.pass.Statement.{statement}
 use Rattle.judge.proofs.steps.pass.Tie as tie

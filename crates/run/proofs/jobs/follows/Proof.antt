@@ -1,6 +1,6 @@
 -- A job and a later one are in order and apart as defined, by the comparisons that lead to each return.
 use Rattle.budget.proofs.Tests.{tests}
-use Rattle.run.specs.Scan.{follows}
+use Rattle.run.specs.inner.Scan.{follows}
 use borrow.Author.Needs.{needs}
 use Rattle.run.proofs.jobs.follows.Statement.{statement}
 use Rattle.run.proofs.jobs.follows.Tie as tie

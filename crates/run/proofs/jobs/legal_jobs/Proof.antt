@@ -7,7 +7,7 @@ use borrow.Author.Needs.{needs}
 use borrow.Author.Tests.{not-true, not-false}
 use native.Mathlib.Omega.{arith}
 use Rattle.budget.specs.Task.{tasksOf}
-use Rattle.run.specs.Columns.{Tasks, Releases, Works}
+use Rattle.run.specs.inner.Columns.{Tasks, Releases, Works}
 use Rattle.run.specs.Job.{Job, legalArrival}
 use Rattle.run.proofs.JobRules.{legal-from, legal-end}
 use Rattle.run.proofs.Scans.{column-length}

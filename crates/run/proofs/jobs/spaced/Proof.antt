@@ -10,7 +10,7 @@ use native.Mathlib.Numerals.{add-one}
 use native.Mathlib.Omega.{arith}
 use Rattle.budget.specs.declared.task.Task.{Task}
 use Rattle.budget.specs.Task.{T}
-use Rattle.run.specs.Columns.{Tasks, Releases}
+use Rattle.run.specs.inner.Columns.{Tasks, Releases}
 use Rattle.run.specs.Job.{Job, taskOf, beforeAll}
 use Rattle.run.specs.Run.{noJob}
 use Rattle.run.proofs.JobRules.{before-from, before-end}

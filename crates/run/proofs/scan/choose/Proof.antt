@@ -9,7 +9,7 @@ use borrow.Author.Needs.{needs}
 use native.Mathlib.Nat.{zero-add}
 use native.Mathlib.Omega.{arith}
 use Rattle.budget.specs.declared.task.Task.{Task}
-use Rattle.run.specs.Columns.{Deadlines, Tasks, Releases}
+use Rattle.run.specs.inner.Columns.{Deadlines, Tasks, Releases}
 use Rattle.run.specs.Job.{Job}
 use Rattle.run.specs.Run.{next}
 use Rattle.run.proofs.Scans.{next-end, next-step, taken-waits, column-length}

@@ -1,6 +1,6 @@
 -- Of job i and the one found behind it the right one is named: each return is the definition at the comparisons that led there.
 use borrow.Author.Needs.{needs}
-use Rattle.run.specs.Scan.{takesOver}
+use Rattle.run.specs.inner.Scan.{takesOver}
 use native.Mathlib.Nat.{le-of-eq, pos-of-ne-zero}
 use Rattle.budget.proofs.Tests.{tests}
 use Rattle.run.proofs.scan.first_of.Statement.{statement}

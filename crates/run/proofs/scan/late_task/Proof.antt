@@ -7,7 +7,7 @@ use lib.ListN.{length, drop}
 use borrow.Author.Needs.{needs}
 use native.Mathlib.Omega.{arith}
 use Rattle.budget.specs.declared.task.Task.{Task}
-use Rattle.run.specs.Columns.{Deadlines, Tasks}
+use Rattle.run.specs.inner.Columns.{Deadlines, Tasks}
 use Rattle.run.specs.Job.{Job}
 use Rattle.run.specs.Walk.{lateTask}
 use Rattle.run.proofs.Scans.{late-end, late-step, column-length}

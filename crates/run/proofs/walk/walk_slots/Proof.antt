@@ -9,7 +9,7 @@ use denote.Ref.{now}
 use borrow.Author.Needs.{needs}
 use native.Mathlib.Omega.{arith}
 use Rattle.budget.specs.declared.task.Task.{Task}
-use Rattle.run.specs.Columns.{Deadlines, Tasks, Releases, Works}
+use Rattle.run.specs.inner.Columns.{Deadlines, Tasks, Releases, Works}
 use Rattle.run.specs.Job.{Job}
 use Rattle.run.proofs.Walking.{Walking, begin, step, stopped, answers}
 use Rattle.run.proofs.walk.walk_slots.Statement.{statement}
