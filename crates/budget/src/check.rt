@@ -1,4 +1,4 @@
-// Checking a component, which stands above its ranges and its common period.
+// Checking a component: its ranges and then its common period, in the order of RULES 13.
 use crate::common_period::common_period;
 use crate::component::Component;
 ghost use mathlib.Core.Path.{_≡_};

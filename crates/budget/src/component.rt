@@ -1,3 +1,4 @@
+// A component (RULES 2): its capacity, its interface, and the refusals of its ranges.
 use crate::interface::Interface;
 use crate::interface::check_interface;
 use crate::quantity::Time;
@@ -9,7 +10,7 @@ use crate::task::no_tasks;
 ghost use mathlib.Core.Path.{_≡_};
 ghost use Rattle.budget.specs.Component.{refused, interfaceOf, rangeRefusal};
 
-// A component's capacity is either stated or asked.
+// The capacity of a component: stated in units, or asked for.
 pub enum Capacity {
     Stated(Units),
     Asked,
@@ -24,7 +25,7 @@ pub struct Component {
     pub table: Table,
 }
 
-// What stands where an edit or a reading is refused: number 0, stated (1, 1, 1), without tasks.
+// What stands where an edit or a reading is refused: number 0, the dedicated processor as its stated interface, no tasks.
 pub fn refused() -> Component
     ensures { λ r. ⌜ r ≡ refused ⌝ }
 {

@@ -1,4 +1,4 @@
--- The smallest capacity (01, "Verdict"): "For an asked capacity the answer is the smallest Θ from 0 to Δ that is accepted, or none."
+-- The smallest capacity that is accepted, looked for from 0 up to Δ (RULES 7).
 use Prim.Native.Nat.{ℕ, suc}
 use mathlib.Core.Bool.{cond}
 use mathlib.Core.List.{List}

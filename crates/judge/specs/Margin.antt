@@ -1,5 +1,4 @@
--- The margin (01, "Margin"): "The least supply minus demand over the step instants t from 1 to L, where demand at t exceeds demand at t−1, with the
--- smallest such instant."
+-- The margin: what supply has over demand at the step instant, of those up to L, where that is least, and the first such instant (RULES 8).
 use Prim.Native.Nat.{ℕ, zero, suc, _+_, _≤_, _<_}
 use mathlib.Core.Bool.{cond}
 use mathlib.Core.List.{List}
@@ -62,7 +61,7 @@ marginOn ks i n =
     let t = tightInstant ks i n in
     cond (eqb t 0) Variant.None (Variant.Least (marginAt ks i t) (record { 0 = t }))
 
--- "A component with no tasks, or answered none, has no margin; an asked one is measured at the capacity found"
+-- a component is measured at its capacity, stated or found; without tasks, or answered none, it has no margin
 unfoldable pub marginedAt : Component → Capacity → Margined
 marginedAt c (Stated u) = marginOn (tasksOf (c .table)) (interfaceAt c (u .0)) (commonPeriodOf c)
 marginedAt c Asked =
@@ -74,7 +73,7 @@ marginedAt c Asked =
 unfoldable pub marginAnswer : Component → Margined
 marginAnswer c = cond (eqb (componentRefusal c) refusal.none) (marginedAt c (c .capacity)) (Variant.Refused (componentRefusal c))
 
--- the margin and its instant as numbers; "margin instant 0 says no margin"
+-- the margin and its instant as numbers: the instant is 0 where there is no margin
 abbrev pub marginOf : Margined → ℤ
 marginOf (Variant.Refused n) = pos 0
 marginOf (Variant.Least m t) = m

@@ -1,4 +1,4 @@
-// The smallest capacity that is accepted for a component's period, deadline and tasks.
+// The smallest capacity that is accepted for a component's period, deadline and tasks (RULES 7).
 use crate::answer::Smallest;
 use crate::steps::columns_of;
 use crate::steps::pass;

@@ -1,4 +1,4 @@
-// The margin of a component: the least supply minus demand over its step instants, and the first instant that has it.
+// The margin of a component (RULES 8): what supply has over demand where that is least, over its step instants, and the first such instant.
 use crate::answer::Margined;
 use crate::capacity::least_capacity;
 use crate::steps::columns_of;

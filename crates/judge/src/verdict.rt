@@ -1,4 +1,4 @@
-// The verdict on a component: accepted, short at the first short instant, or none.
+// The verdict on a component (RULES 7): accepted, short at the first short instant, or none.
 use crate::answer::Judged;
 use crate::answer::Verdict;
 use crate::capacity::least_capacity;
