@@ -1,6 +1,7 @@
 pub mod Accepted
 pub mod Arrival
 pub mod Conservation
+pub mod EarliestDeadline
 pub mod Filled
 pub mod FirstMiss
 pub mod JobRules

@@ -8,7 +8,7 @@ ghost use lib.ListN.{length, getD};
 ghost use Rattle.budget.specs.declared.task.Task.{Task};
 ghost use Rattle.run.specs.inner.Columns.{Deadlines, Tasks, Releases};
 ghost use Rattle.run.specs.Job.{Job};
-ghost use Rattle.run.specs.Run.{next};
+ghost use Rattle.run.specs.Order.{next};
 ghost use Rattle.run.specs.inner.Scan.{Slotted, takesOver};
 ghost use Rattle.run.specs.Walk.{lateTask};
 

@@ -1,4 +1,4 @@
-// The walk: a run of jobs on a trace, slot by slot, to the first miss or the trace's end.
+// The walk (RULES 9): a run of jobs on a trace, slot by slot, as far as the first miss or the end of the trace.
 use crate::jobs::MOST;
 use crate::jobs::check_jobs;
 use crate::jobs::deadlines;

@@ -13,8 +13,7 @@ use Rattle.budget.specs.Limits.{most-tasks}
 use Rattle.budget.specs.Task.{T, C, noTask, tasksOf}
 use Rattle.budget.proofs.Places.{length-mapped}
 use Rattle.run.specs.inner.Columns.{Tasks, Works}
-use Rattle.run.specs.Job.{Job, validJob}
-use Rattle.run.specs.Run.{noJob}
+use Rattle.run.specs.Job.{Job, validJob, noJob}
 use Rattle.run.proofs.JobRules.{valid-at, task-at}
 use Rattle.run.proofs.Scans.{column-length}
 use borrow.Author.Needs.{needs}

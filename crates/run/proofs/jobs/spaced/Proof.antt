@@ -11,8 +11,7 @@ use native.Mathlib.Omega.{arith}
 use Rattle.budget.specs.declared.task.Task.{Task}
 use Rattle.budget.specs.Task.{T}
 use Rattle.run.specs.inner.Columns.{Tasks, Releases}
-use Rattle.run.specs.Job.{Job, taskOf, beforeAll}
-use Rattle.run.specs.Run.{noJob}
+use Rattle.run.specs.Job.{Job, taskOf, beforeAll, noJob}
 use Rattle.run.proofs.JobRules.{before-from, before-end}
 use Rattle.run.proofs.Scans.{column-length}
 use Rattle.run.proofs.jobs.spaced.Statement.{statement}

@@ -11,7 +11,7 @@ use native.Mathlib.Omega.{arith}
 use Rattle.budget.specs.declared.task.Task.{Task}
 use Rattle.run.specs.inner.Columns.{Deadlines, Tasks, Releases}
 use Rattle.run.specs.Job.{Job}
-use Rattle.run.specs.Run.{next}
+use Rattle.run.specs.Order.{next}
 use Rattle.run.proofs.Scans.{next-end, next-step, taken-waits, column-length}
 use Rattle.run.proofs.scan.choose.Statement.{statement}
 use Rattle.run.proofs.scan.choose.Tie as tie
