@@ -4,10 +4,10 @@ use mathlib.Core.List.{List}
 use borrow.Author.Tests.{leb-true, le-leb}
 use native.Mathlib.Nat.{le-trans}
 use Rattle.budget.specs.declared.task.Task.{Task}
-use Rattle.run.specs.Job.{Job}
+use Rattle.run.specs.Job.{Job, deadline}
 use Rattle.run.specs.Order.{goesBefore}
 use Rattle.run.specs.Run.{earliestDeadline}
-use Rattle.run.proofs.EarliestDeadline.{decides, not-before}
+use Rattle.run.proofs.LeastFirst.{decides, not-before}
 use Rattle.run.proofs.Next.{next-waits, next-found, next-first}
 use Rattle.promises.specs.inner.Serving.{UrgentFirst, dueBy}
 
@@ -18,5 +18,5 @@ earliest-first ks js t =
     record {
       waiting = λ n left l. next-waits before n js left l;
       busy = λ n left q l u w. next-found before n js left q l w;
-      first = λ n left q l u w. le-leb _ _ (le-trans (not-before ks _ _ (next-first before n (decides ks) js left q l w) .deadlines) (leb-true _ _ u));
+      first = λ n left q l u w. le-leb _ _ (le-trans (not-before (deadline ks) _ _ (next-first before n (decides (deadline ks)) js left q l w) .keys) (leb-true _ _ u));
     }

@@ -1,10 +1,10 @@
 pub mod Accepted
 pub mod Arrival
 pub mod Conservation
-pub mod EarliestDeadline
 pub mod Filled
 pub mod FirstMiss
 pub mod JobRules
+pub mod LeastFirst
 pub mod Next
 pub mod RunLaws
 pub mod Scans

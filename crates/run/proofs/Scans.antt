@@ -15,7 +15,7 @@ use Rattle.budget.specs.Limits.{most-tasks}
 use Rattle.budget.proofs.Valid.{both}
 use Rattle.run.specs.inner.Columns.{Deadlines, Tasks, Releases}
 use Rattle.run.specs.Job.{Job, deadline, noJob}
-use Rattle.run.specs.Order.{waits, goesBefore, headFirst, next, nextBy}
+use Rattle.run.specs.Order.{waits, goesBefore, headFirst, leastFirst, next, nextBy}
 use Rattle.run.specs.inner.Scan.{takesOver}
 use Rattle.run.specs.Walk.{late, lateTask}
 
@@ -68,7 +68,7 @@ module _ (ks : List Task) (n : ℕ) (js : List Job) (due ts rs left : List ℕ)
   goes-before : (p : ℕ) → i + p ≡ first → first < length js
       → goesBefore ks (getD (drop i js) p noJob) (getD js k noJob)
       ≡ (ltb (getD due first 0) (getD due k 0) || (eqb (getD due first 0) (getD due k 0) && ltb (getD ts first 0) (getD ts k 0)))
-  unfolding goesBefore
+  unfolding leastFirst
   goes-before p place hf =
       let hj : k < length js = omega arith in
       rw (getD-drop i js p noJob, place, column (deadline ks) js due dues first hf, column (deadline ks) js due dues k hj, column (λ j. j .task) js ts tasks first hf, column (λ j. j .task) js ts tasks k hj)

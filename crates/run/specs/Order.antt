@@ -28,10 +28,13 @@ nextBy before (j ∷ js) n (w ∷ left) =
     let p = nextBy before js n left in
     cond (headFirst before n j w js p) 0 (suc p)
 
--- earliest deadline first: the job with the earlier deadline goes first, and of equal deadlines the one of the lower task number
-unfoldable pub goesBefore : List Task → Order
-goesBefore ks a b =
-    ltb (deadline ks a) (deadline ks b) || (eqb (deadline ks a) (deadline ks b) && ltb (a .task) (b .task))
+-- an order by a number of each job: the least goes first, and of equal ones the job of the lower task
+unfoldable pub leastFirst : (Job → ℕ) → Order
+leastFirst key a b = ltb (key a) (key b) || (eqb (key a) (key b) && ltb (a .task) (b .task))
+
+-- the rules' order: earliest deadline first
+abbrev pub goesBefore : List Task → Order
+goesBefore ks = leastFirst (deadline ks)
 
 abbrev pub next : List Task → ℕ → List Job → List ℕ → ℕ
 next ks n js left = nextBy (goesBefore ks) js n left
