@@ -60,12 +60,6 @@ loop-holds : tie.Need-loop-holds Inv-loop μ-loop
 unfolding tasksOf
 loop-holds c = (search needs, c .before .pre .0 .0, c .before .pre .0 .1, c .before .pre .1, refl)
 
-mul-task : tie.Need-mul-task Inv-loop μ-loop
-mul-task c = search needs
-
-array-copy-out-task : tie.Need-array-copy-out-task Inv-loop μ-loop
-array-copy-out-task c = search needs
-
 common-multiple-requires : tie.Need-common-multiple-requires Inv-loop μ-loop
 common-multiple-requires c κs = let i = c .before .before .loop .inv in (i .1, i .2, valid (c .before) .0 .bounded)
 
@@ -74,12 +68,6 @@ returns c =
     let w = c .before .before .before in
     let over : limit < next w = is-above (next w) (next-positive w) (sym (c .before .common-multiple .ensures) ∙ c .if1 .taken) in
     rw (whole w) (sym (above-is _ (lt-of-lt-of-le over (common-grows (next w) (rest w) (next-positive w) (valid w .1)))))
-
-add-place : tie.Need-add-place Inv-loop μ-loop
-add-place c = search needs
-
-loop-less : tie.Need-loop-less Inv-loop μ-loop
-loop-less c = search needs
 
 loop-again : tie.Need-loop-again Inv-loop μ-loop
 unfolding tasksOf
@@ -103,11 +91,11 @@ common-length-spec =
     Inv-loop
     μ-loop
     loop-holds
-    mul-task
-    array-copy-out-task
+    (search needs)
+    (search needs)
     common-multiple-requires
     returns
-    add-place
-    loop-less
+    (search needs)
+    (search needs)
     loop-again
     returns-2)

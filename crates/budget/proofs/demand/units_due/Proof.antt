@@ -62,23 +62,11 @@ loop-holds : tie.Need-loop-holds Inv-loop μ-loop
 unfolding tasksOf
 loop-holds c = (search needs, search needs, c .before .pre .1, sym (zero-add _))
 
-mul-units-of : tie.Need-mul-units-of Inv-loop μ-loop
-mul-units-of c = search needs
-
-array-copy-out-units-of : tie.Need-array-copy-out-units-of Inv-loop μ-loop
-array-copy-out-units-of c = search needs
-
 units-of-requires : tie.Need-units-of-requires Inv-loop μ-loop
 units-of-requires c κs = (task-valid _ (valid (c .before) .0), c .before .before .before .before .pre .2)
 
 add-units : tie.Need-add-units Inv-loop μ-loop
 add-units c = let w = c .before .before in omega (arith, c .units-of .ensures, asked-bound w)
-
-add-place : tie.Need-add-place Inv-loop μ-loop
-add-place c = search needs
-
-loop-less : tie.Need-loop-less Inv-loop μ-loop
-loop-less c = search needs
 
 loop-again : tie.Need-loop-again Inv-loop μ-loop
 unfolding tasksOf
@@ -99,11 +87,11 @@ units-due-spec =
     Inv-loop
     μ-loop
     loop-holds
-    mul-units-of
-    array-copy-out-units-of
+    (search needs)
+    (search needs)
     units-of-requires
     add-units
-    add-place
-    loop-less
+    (search needs)
+    (search needs)
     loop-again
     returns)

@@ -36,27 +36,12 @@ step c = let s = c .before .before .before in c .before .loop .inv .1 ∙ ap val
 loop-holds : tie.Need-loop-holds Inv-loop μ-loop
 loop-holds c = (search needs, refl)
 
-mul-check-task : tie.Need-mul-check-task Inv-loop μ-loop
-mul-check-task c = search needs
-
-array-copy-out-check-task : tie.Need-array-copy-out-check-task Inv-loop μ-loop
-array-copy-out-check-task c = search needs
-
-check-task-requires : tie.Need-check-task-requires Inv-loop μ-loop
-check-task-requires c κs = search needs
-
 returns : tie.Need-returns Inv-loop μ-loop
 unfolding taskRefusal
 returns c =
     let w = c .before .before .before in
     let e : validTask (here w) ≡ false = failed (validTask (here w)) (λ z. c .if1 .taken (c .before .check-task .ensures ∙ z)) in
     rw (step w, e)
-
-add-place : tie.Need-add-place Inv-loop μ-loop
-add-place c = search needs
-
-loop-less : tie.Need-loop-less Inv-loop μ-loop
-loop-less c = search needs
 
 loop-again : tie.Need-loop-again Inv-loop μ-loop
 unfolding taskRefusal tasksOf
@@ -78,11 +63,11 @@ check-tasks-spec =
     Inv-loop
     μ-loop
     loop-holds
-    mul-check-task
-    array-copy-out-check-task
-    check-task-requires
+    (search needs)
+    (search needs)
+    (λ c κs. search needs)
     returns
-    add-place
-    loop-less
+    (search needs)
+    (search needs)
     loop-again
     returns-2)

@@ -42,9 +42,6 @@ for-demand : (r : tie.After-raised Inv-loop μ-loop)
     (demand (tasksOf (start (r .before) .args .table)) (turn (r .before) .before .loop .at)) (r .raised .result)
 for-demand r = rw (← on (r .before) .known) (r .raised .ensures)
 
-columns-of-requires : tie.Need-columns-of-requires Inv-loop μ-loop
-columns-of-requires c κs = search needs
-
 loop-holds : tie.Need-loop-holds Inv-loop μ-loop
 loop-holds c =
     let s = c .before .before .before .before in
@@ -90,7 +87,7 @@ least-capacity-spec =
     (tie.spec
     Inv-loop
     μ-loop
-    columns-of-requires
+    (λ c κs. search needs)
     loop-holds
     pass-requires
     raised-requires

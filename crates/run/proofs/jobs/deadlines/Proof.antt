@@ -39,12 +39,6 @@ fine c = c .before .before .before .pre .3 (c .before .loop .i) (c .loop-test .t
 loop-holds : tie.Need-loop-holds Inv-loop μ-loop
 loop-holds c = (search needs, search needs, (λ k l. absurd (not-suc-le-zero l)))
 
-mul-place : tie.Need-mul-place Inv-loop μ-loop
-mul-place c = search needs
-
-shared-slice-read-place : tie.Need-shared-slice-read-place Inv-loop μ-loop
-shared-slice-read-place c = search needs
-
 cast-place : tie.Need-cast-place Inv-loop μ-loop
 cast-place c = omega (arith, fine (c .before) .0, c .before .before .before .before .pre .0)
 
@@ -54,26 +48,8 @@ mul-task c = omega (arith, fine (c .before) .0, c .before .before .before .befor
 array-copy-out-task : tie.Need-array-copy-out-task Inv-loop μ-loop
 array-copy-out-task c = omega (arith, fine (c .before) .0, c .before .before .before .before .pre .0)
 
-mul-release : tie.Need-mul-release Inv-loop μ-loop
-mul-release c = search needs
-
-shared-slice-read-release : tie.Need-shared-slice-read-release Inv-loop μ-loop
-shared-slice-read-release c = search needs
-
 add-due : tie.Need-add-due Inv-loop μ-loop
 add-due c = omega (arith, fine (c .before .before .before .before) .1)
-
-mul-due : tie.Need-mul-due Inv-loop μ-loop
-mul-due c = search needs
-
-slice-write-due : tie.Need-slice-write-due Inv-loop μ-loop
-slice-write-due c = search needs
-
-add-i : tie.Need-add-i Inv-loop μ-loop
-add-i c = search needs
-
-loop-less : tie.Need-loop-less Inv-loop μ-loop
-loop-less c = search needs
 
 loop-again : tie.Need-loop-again Inv-loop μ-loop
 loop-again c =
@@ -84,9 +60,6 @@ loop-again c =
       filled (λ k. getD (now (a .releases)) k 0 + D (getD (a .table .tasks) (getD (now (a .tasks)) k 0) noTask)) (h .loop .due) (h .loop .i) (omega arith)
           (h .loop .inv .2),
     )
-
-same-length : tie.Need-same-length Inv-loop μ-loop
-same-length c = search needs
 
 returns : tie.Need-returns Inv-loop μ-loop
 returns c =
@@ -104,18 +77,18 @@ deadlines-spec =
     Inv-loop
     μ-loop
     loop-holds
-    mul-place
-    shared-slice-read-place
+    (search needs)
+    (search needs)
     cast-place
     mul-task
     array-copy-out-task
-    mul-release
-    shared-slice-read-release
+    (search needs)
+    (search needs)
     add-due
-    mul-due
-    slice-write-due
-    add-i
-    loop-less
+    (search needs)
+    (search needs)
+    (search needs)
+    (search needs)
     loop-again
-    same-length
+    (search needs)
     returns)

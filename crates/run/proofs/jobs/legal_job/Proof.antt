@@ -36,18 +36,6 @@ valid s js tasks works =
     let a = s .args in
     valid-at (a .table) (room s) js (now (a .tasks)) tasks (a .i) (omega (arith, column-length _ js _ tasks, s .pre)) (now (a .works)) works
 
-mul-work : tie.Need-mul-work
-mul-work c = search needs
-
-shared-slice-read-work : tie.Need-shared-slice-read-work
-shared-slice-read-work c = search needs
-
-mul-place : tie.Need-mul-place
-mul-place c = search needs
-
-shared-slice-read-place : tie.Need-shared-slice-read-place
-shared-slice-read-place c = search needs
-
 cast-place : tie.Need-cast-place
 cast-place c = omega (arith, c .shared-slice-known5 .given (c .before .before .before .before .before .args .i))
 
@@ -61,21 +49,12 @@ returns-2 c =
     let s = c .before .before .before .before .before .before .before in
     λ js tasks releases works. sym (rw (valid s js tasks works, lt-ltb _ _ (c .before .if1 .left), lt-leb _ _ (c .if2 .taken)))
 
-mul-task : tie.Need-mul-task
-mul-task c = search needs
-
-array-copy-out-task : tie.Need-array-copy-out-task
-array-copy-out-task c = search needs
-
 returns-3 : tie.Need-returns-3
 returns-3 c =
     let e = c .before .before .before in
     let s = e .before .before .before .before .before .before .before in
     λ js tasks releases works.
     sym (rw (valid s js tasks works, lt-ltb _ _ (e .before .if1 .left), le-leb _ _ (e .if2 .left), lt-leb _ _ (c .if3 .taken)))
-
-spaced-requires : tie.Need-spaced-requires
-spaced-requires c κs = search needs
 
 returns-4 : tie.Need-returns-4
 returns-4 c =
@@ -92,15 +71,15 @@ pub legal-job-spec : {M : Type 1} → statement M
 legal-job-spec =
     tie.close
     (tie.spec
-    mul-work
-    shared-slice-read-work
-    mul-place
-    shared-slice-read-place
+    (search needs)
+    (search needs)
+    (search needs)
+    (search needs)
     cast-place
     returns
     returns-2
-    mul-task
-    array-copy-out-task
+    (search needs)
+    (search needs)
     returns-3
-    spaced-requires
+    (λ c κs. search needs)
     returns-4)

@@ -33,15 +33,6 @@ loop-holds c =
       (λ ks js dues tasks releases. next-end ks (a .n) js (now (a .left)) (length (now (a .left))) (omega (arith, column-length _ js _ dues))),
     )
 
-sub-i : tie.Need-sub-i Inv-loop μ-loop
-sub-i c = search needs
-
-first-of-requires : tie.Need-first-of-requires Inv-loop μ-loop
-first-of-requires c κs = search needs
-
-loop-less : tie.Need-loop-less Inv-loop μ-loop
-loop-less c = search needs
-
 loop-again : tie.Need-loop-again Inv-loop μ-loop
 loop-again c =
     let h = c .before .before in
@@ -66,4 +57,4 @@ returns c =
 pub choose-spec : {M : Type 1} → statement M
 choose-spec =
     tie.close
-    (tie.spec Inv-loop μ-loop loop-holds sub-i first-of-requires loop-less loop-again returns)
+    (tie.spec Inv-loop μ-loop loop-holds (search needs) (λ c κs. search needs) (search needs) loop-again returns)

@@ -50,12 +50,6 @@ walk-slots-requires c κs =
       rules s .short,
     )
 
-same-length : tie.Need-same-length
-same-length c = search needs
-
-same-length-2 : tie.Need-same-length-2
-same-length-2 c = search needs
-
 returns : tie.Need-returns
 returns c =
     let v = c .before .before in
@@ -78,6 +72,6 @@ walk-jobs-spec =
     deadlines-requires
     whole-work-requires
     walk-slots-requires
-    same-length
-    same-length-2
+    (search needs)
+    (search needs)
     returns)
