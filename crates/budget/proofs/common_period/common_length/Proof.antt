@@ -3,16 +3,16 @@ use Prim.Native.Nat.{ℕ, _+_, _-_, _≤_, _<_}
 use mathlib.Core.Bool.{true}
 use mathlib.Core.List.{List}
 use mathlib.Core.Path.{_≡_, refl, sym, _∙_, ap}
-use native.Mathlib.Nat.{le-trans, le-of-eq, lt-of-lt-of-le}
+use native.Mathlib.Nat.{lt-of-lt-of-le}
 use native.Mathlib.Omega.{arith}
 use lib.ListN.{length, getD, take, drop}
 use borrow.Author.Needs.{needs}
 use Rattle.budget.specs.declared.task.Task.{Task}
 use Rattle.budget.specs.CommonPeriod.{commonMultiple, commonPeriod}
-use Rattle.budget.specs.Limits.{limit, most-tasks}
+use Rattle.budget.specs.Limits.{limit}
 use Rattle.budget.specs.Task.{T, validTasks, tasksOf, noTask}
 use Rattle.budget.proofs.CommonPeriodLaws.{common-grows, multiple-positive}
-use Rattle.budget.proofs.Places.{length-mapped, from-place, from-end, valid-from}
+use Rattle.budget.proofs.Places.{in-array, from-place, from-end, valid-from}
 use Rattle.budget.proofs.Valid.{ValidTask}
 use Rattle.budget.proofs.Within.{within-is, above-is, is-above, is-within}
 use Rattle.budget.proofs.common_period.common_length.Statement.{statement}
@@ -28,9 +28,7 @@ abbrev μ-loop : tie.MeasureT-loop
 
 -- every place of the count stands in the table
 room : (s : tie.Start Inv-loop μ-loop) → s .args .table .count ≤ length (s .args .table .tasks)
-room s =
-    let full : length (s .args .table .tasks) ≡ most-tasks = search (needs, length-mapped) in
-    le-trans (s .pre .0 .2) (le-of-eq (sym full))
+room s = search (needs, in-array)
 
 -- in a turn: the task at the place, those after it, and the multiple that the turn goes on with
 module _ (c : tie.In-loop Inv-loop μ-loop) where

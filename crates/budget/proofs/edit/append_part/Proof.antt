@@ -2,7 +2,6 @@
 use Prim.Native.Nat.{_+_, _-_, _≤_}
 use mathlib.Core.List.{List, [], _∷_, _++_, append-nil}
 use mathlib.Core.Path.{_≡_, refl, sym, _∙_, ap}
-use native.Mathlib.Nat.{le-trans, le-of-eq}
 use native.Mathlib.Omega.{arith}
 use lib.ListN.{length, getD, take, drop, length-append}
 use lib.Seq.{append-snoc}
@@ -10,7 +9,7 @@ use borrow.Author.Needs.{needs}
 use Rattle.budget.specs.declared.task.Task.{Task}
 use Rattle.budget.specs.Limits.{most-tasks}
 use Rattle.budget.specs.Task.{tasksOf, tableOf, noTask}
-use Rattle.budget.proofs.Places.{length-mapped, from-place, from-end}
+use Rattle.budget.proofs.Places.{in-array, from-place, from-end}
 use Rattle.budget.proofs.TableLaws.{tasks-are, returned, count-is, append-returned}
 use Rattle.budget.proofs.edit.append_part.Statement.{statement}
 use Rattle.budget.proofs.edit.append_part.Tie as tie
@@ -27,9 +26,7 @@ abbrev μ-loop : tie.MeasureT-loop
 
 -- every place up to the end stands in the source
 room : (s : tie.Start Inv-loop μ-loop) → s .args .end ≤ length (s .args .source .tasks)
-room s =
-    let full : length (s .args .source .tasks) ≡ most-tasks = search (needs, length-mapped) in
-    le-trans (s .pre .1 .0) (le-of-eq (sym full))
+room s = search (needs, in-array)
 
 -- after a turn the table is as one returned for the tasks so far and the one at the place
 module _ (c : tie.After-append Inv-loop μ-loop) where

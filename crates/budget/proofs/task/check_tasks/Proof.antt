@@ -3,13 +3,11 @@ use Prim.Native.Nat.{_+_, _-_, _≤_}
 use mathlib.Core.Path.{_≡_, refl, sym, _∙_, ap}
 use mathlib.Core.Bool.{true, false, _&&_}
 use lib.ListN.{length, getD, take, drop}
-use native.Mathlib.Nat.{le-trans, le-of-eq}
 use borrow.Author.Needs.{needs}
 use Rattle.budget.specs.declared.task.Task.{Task}
-use Rattle.budget.specs.Limits.{most-tasks}
 use Rattle.budget.specs.Task.{taskRefusal, validTask, validTasks, tasksOf, noTask}
 use Rattle.budget.proofs.Answers.{passed, failed}
-use Rattle.budget.proofs.Places.{length-mapped, from-place, from-end}
+use Rattle.budget.proofs.Places.{in-array, from-place, from-end}
 use Rattle.budget.proofs.task.check_tasks.Statement.{statement}
 use Rattle.budget.proofs.task.check_tasks.Tie as tie
 
@@ -21,9 +19,7 @@ abbrev μ-loop : tie.MeasureT-loop
 
 -- every place of the count stands in the table
 room : (s : tie.Start Inv-loop μ-loop) → s .args .table .count ≤ length (s .args .table .tasks)
-room s =
-    let full : length (s .args .table .tasks) ≡ most-tasks = search (needs, length-mapped) in
-    le-trans (s .pre) (le-of-eq (sym full))
+room s = search (needs, in-array)
 
 abbrev here : tie.In-loop Inv-loop μ-loop → Task
 here c = getD (c .before .before .before .args .table .tasks) (c .before .loop .place) noTask

@@ -1,13 +1,12 @@
 -- Each job's deadline is stored at its place. The loop's invariant: every place below i has its job's deadline.
 use Prim.Native.Nat.{ℕ, _+_, _-_, _^_, _≤_, _<_}
-use mathlib.Core.Path.{_≡_, sym}
+use mathlib.Core.Path.{_≡_}
 use lib.ListN.{length, getD}
 use denote.Ref.{now}
-use native.Mathlib.Nat.{not-suc-le-zero, le-trans, le-of-eq}
+use native.Mathlib.Nat.{not-suc-le-zero}
 use native.Mathlib.Omega.{arith}
 use borrow.Author.Needs.{needs}
-use Rattle.budget.specs.Limits.{most-tasks}
-use Rattle.budget.proofs.Places.{length-mapped}
+use Rattle.budget.proofs.Places.{in-array}
 use Rattle.budget.specs.Task.{D, noTask}
 use Rattle.run.proofs.Filled.{filled}
 use Rattle.run.proofs.JobRules.{due-column}
@@ -24,9 +23,7 @@ abbrev μ-loop : tie.MeasureT-loop
 
 -- every place of the count stands in the table
 room : (s : tie.Start Inv-loop μ-loop) → s .args .table .count ≤ length (s .args .table .tasks)
-room s =
-    let full : length (s .args .table .tasks) ≡ most-tasks = search (needs, length-mapped) in
-    le-trans (s .pre .0) (le-of-eq (sym full))
+room s = search (needs, in-array)
 
 -- the job at the loop's place: its task is there, and its deadline fits
 fine : (c : tie.In-loop Inv-loop μ-loop) →

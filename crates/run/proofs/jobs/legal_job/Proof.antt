@@ -6,12 +6,10 @@ use mathlib.Core.Path.{_≡_, sym, ap}
 use lib.Dec.{leb, ltb}
 use lib.ListN.{length, getD}
 use denote.Ref.{now}
-use native.Mathlib.Nat.{le-trans, le-of-eq}
 use native.Mathlib.Omega.{arith}
 use borrow.Author.Tests.{lt-ltb, le-ltb, le-leb, lt-leb}
-use Rattle.budget.specs.Limits.{most-tasks}
 use Rattle.budget.specs.Task.{T, C, noTask, tasksOf}
-use Rattle.budget.proofs.Places.{length-mapped}
+use Rattle.budget.proofs.Places.{in-array}
 use Rattle.run.specs.inner.Columns.{Tasks, Works}
 use Rattle.run.specs.Job.{Job, validJob, noJob}
 use Rattle.run.proofs.JobRules.{valid-at, task-at}
@@ -22,9 +20,7 @@ use Rattle.run.proofs.jobs.legal_job.Tie as tie
 
 -- every place of the count stands in the table
 room : (s : tie.Start) → s .args .table .count ≤ length (s .args .table .tasks)
-room s =
-    let full : length (s .args .table .tasks) ≡ most-tasks = search (needs, length-mapped) in
-    le-trans (s .pre .0) (le-of-eq (sym full))
+room s = search (needs, in-array)
 
 -- the job's own rules, as the code tests them
 valid : (s : tie.Start) (js : List Job) → Tasks js (now (s .args .tasks)) → Works js (now (s .args .works))
