@@ -89,11 +89,11 @@ common-length-spec =
     Inv-loop
     μ-loop
     loop-holds
-    (search needs)
-    (search needs)
+    (λ c. search needs)
+    (λ c. search needs)
     common-multiple-requires
     returns
-    (search needs)
-    (search needs)
+    (λ c. search needs)
+    (λ c. search needs)
     loop-again
     returns-2)

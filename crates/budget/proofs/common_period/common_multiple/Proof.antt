@@ -35,7 +35,7 @@ common-multiple-spec =
     div-multiple
     cast-multiple
     mul-multiple
-    (search needs)
+    (λ c. search needs)
     returns
-    (search needs)
+    (λ c. search needs)
     returns-2)

@@ -16,4 +16,4 @@ unfolding interfaceOf
 returns-2 c = rw (c .enum-told .given .1)
 
 pub interface-of-spec : {M : Type 1} → statement M
-interface-of-spec = tie.close (tie.spec (search needs) enum-told returns returns-2)
+interface-of-spec = tie.close (tie.spec (λ c. search needs) enum-told returns returns-2)

@@ -85,11 +85,11 @@ units-due-spec =
     Inv-loop
     μ-loop
     loop-holds
-    (search needs)
-    (search needs)
+    (λ c. search needs)
+    (λ c. search needs)
     units-of-requires
     add-units
-    (search needs)
-    (search needs)
+    (λ c. search needs)
+    (λ c. search needs)
     loop-again
     returns)

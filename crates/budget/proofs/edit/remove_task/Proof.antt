@@ -85,7 +85,7 @@ remove-task-spec =
     returns-2
     (λ c κs. search needs)
     append-part-requires
-    (search needs)
+    (λ c. search needs)
     append-part-requires-2
     with-table-requires
     returns-3)

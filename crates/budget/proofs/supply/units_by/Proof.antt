@@ -92,7 +92,7 @@ units-by-spec =
     mul-passed-2
     add-passed-2
     mul-result
-    (search needs)
+    (λ c. search needs)
     add-result
     returns-2
     mul-result-2

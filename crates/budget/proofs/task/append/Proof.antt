@@ -14,4 +14,4 @@ unfolding appended
 returns-2 c = rw (lt-ltb _ _ (c .before .if1 .left))
 
 pub append-spec : {M : Type 1} → statement M
-append-spec = tie.close (tie.spec returns (search needs) (search needs) (search needs) returns-2)
+append-spec = tie.close (tie.spec returns (λ c. search needs) (λ c. search needs) (λ c. search needs) returns-2)

@@ -41,4 +41,4 @@ returns c =
     toZ-ofZ w32 _ (fits _ _ a b) ∙ signed _ _ a b
 
 pub difference-spec : {M : Type 1} → statement M
-difference-spec = tie.close (tie.spec (search needs) (search needs) sub-result returns)
+difference-spec = tie.close (tie.spec (λ c. search needs) (λ c. search needs) sub-result returns)

@@ -80,7 +80,7 @@ margin-spec =
     enum-told
     (λ c κs. search needs)
     measured-requires
-    (search needs)
+    (λ c. search needs)
     measured-asked-requires
     returns-2
     returns-3)

@@ -59,4 +59,4 @@ returns-4 c =
     not-tighter _ _ _ _ _ _ (given s) (s .before .if1 .left) (c .before .before .before .if2 .left) (c .if3 .left)
 
 pub try-instant-spec : {M : Type 1} → statement M
-try-instant-spec = tie.close (tie.spec returns (λ c κs. search needs) returns-2 add-if3 (search needs) returns-3 returns-4)
+try-instant-spec = tie.close (tie.spec returns (λ c κs. search needs) returns-2 add-if3 (λ c. search needs) returns-3 returns-4)

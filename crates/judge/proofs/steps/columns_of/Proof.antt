@@ -44,7 +44,7 @@ columns-of-spec =
     μ-loop
     loop-holds
     (λ c. omega arith)
-    (search needs)
+    (λ c. search needs)
     (λ c. omega arith)
     (λ c. omega arith)
     (λ c. omega arith)

@@ -53,7 +53,7 @@ verdict-spec =
     (tie.spec
     (λ c κs. search needs)
     returns
-    (search needs)
+    (λ c. search needs)
     on-stated-requires
     enum-told
     on-asked-requires

@@ -5,4 +5,4 @@ use Rattle.run.proofs.jobs.apart.Statement.{statement}
 use Rattle.run.proofs.jobs.apart.Tie as tie
 
 pub apart-spec : {M : Type 1} → statement M
-apart-spec = tie.close (tie.spec (λ c. search tests) (search needs) (λ c. search tests))
+apart-spec = tie.close (tie.spec (λ c. search tests) (λ c. search needs) (λ c. search tests))

@@ -74,18 +74,18 @@ deadlines-spec =
     Inv-loop
     μ-loop
     loop-holds
-    (search needs)
-    (search needs)
+    (λ c. search needs)
+    (λ c. search needs)
     cast-place
     mul-task
     array-copy-out-task
-    (search needs)
-    (search needs)
+    (λ c. search needs)
+    (λ c. search needs)
     add-due
-    (search needs)
-    (search needs)
-    (search needs)
-    (search needs)
+    (λ c. search needs)
+    (λ c. search needs)
+    (λ c. search needs)
+    (λ c. search needs)
     loop-again
-    (search needs)
+    (λ c. search needs)
     returns)

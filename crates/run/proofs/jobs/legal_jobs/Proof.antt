@@ -61,7 +61,7 @@ legal-jobs-spec =
     loop-holds
     (λ c κs. search needs)
     returns
-    (search needs)
-    (search needs)
+    (λ c. search needs)
+    (λ c. search needs)
     loop-again
     returns-2)

@@ -40,12 +40,12 @@ whole-work-spec =
     Inv-loop
     μ-loop
     loop-holds
-    (search needs)
-    (search needs)
-    (search needs)
-    (search needs)
-    (search needs)
-    (search needs)
+    (λ c. search needs)
+    (λ c. search needs)
+    (λ c. search needs)
+    (λ c. search needs)
+    (λ c. search needs)
+    (λ c. search needs)
     loop-again
-    (search needs)
+    (λ c. search needs)
     returns)

@@ -41,12 +41,12 @@ serve-slot-spec =
     (tie.spec
     returns
     (λ c κs. search needs)
-    (search needs)
+    (λ c. search needs)
     returns-2
-    (search needs)
-    (search needs)
+    (λ c. search needs)
+    (λ c. search needs)
     sub-left
-    (search needs)
-    (search needs)
-    (search needs)
+    (λ c. search needs)
+    (λ c. search needs)
+    (λ c. search needs)
     returns-3)

@@ -14,4 +14,4 @@ returns c =
 
 pub walk-spec : {M : Type 1} → statement M
 walk-spec =
-    tie.close (tie.spec (λ c κs. search needs) returns (λ c κs. search needs) (search needs) (λ c. search needs))
+    tie.close (tie.spec (λ c κs. search needs) returns (λ c κs. search needs) (λ c. search needs) (λ c. search needs))

@@ -32,5 +32,5 @@ walk-accepted-spec =
     array-borrow-prefix-due
     slice-aggregate-walk-jobs
     walk-jobs-requires
-    (search needs)
+    (λ c. search needs)
     (λ c. search needs))

@@ -68,6 +68,6 @@ walk-jobs-spec =
     deadlines-requires
     whole-work-requires
     walk-slots-requires
-    (search needs)
-    (search needs)
+    (λ c. search needs)
+    (λ c. search needs)
     returns)

@@ -5,4 +5,4 @@ use Rattle.trace.proofs.legal.carried.Statement.{statement}
 use Rattle.trace.proofs.legal.carried.Tie as tie
 
 pub carried-spec : {M : Type 1} → statement M
-carried-spec = tie.close (tie.spec (search needs) (λ c. search tests) (λ c. search tests))
+carried-spec = tie.close (tie.spec (λ c. search needs) (λ c. search tests) (λ c. search tests))

@@ -5,4 +5,4 @@ use Rattle.trace.proofs.legal.lacking.Statement.{statement}
 use Rattle.trace.proofs.legal.lacking.Tie as tie
 
 pub lacking-spec : {M : Type 1} → statement M
-lacking-spec = tie.close (tie.spec (search needs) (λ c. search tests) (λ c. search tests) (λ c. search tests))
+lacking-spec = tie.close (tie.spec (λ c. search needs) (λ c. search tests) (λ c. search tests) (λ c. search tests))

@@ -5,4 +5,4 @@ use Rattle.trace.proofs.legal.next_place.Statement.{statement}
 use Rattle.trace.proofs.legal.next_place.Tie as tie
 
 pub next-place-spec : {M : Type 1} → statement M
-next-place-spec = tie.close (tie.spec (search needs) (λ c. search tests) (λ c. search tests))
+next-place-spec = tie.close (tie.spec (λ c. search needs) (λ c. search tests) (λ c. search tests))
