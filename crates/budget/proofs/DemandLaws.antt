@@ -96,13 +96,6 @@ demand-shift (k ∷ ks) e L divides t =
       demand-shift ks (valid-tail k ks e) L (λ n h. divides (suc n) (suc-le-suc h)) t,
     )
 
-pub demand-shift-times : (ks : List Task) → validTasks ks ≡ true → (L : ℕ) → ((n : ℕ) → n < length ks → T (getD ks n noTask) ∣ L)
-    → (t k : ℕ) → demand ks (t + k * L) ≡ demand ks t + k * demand ks L
-demand-shift-times ks e L divides t zero = let same : t + 0 * L ≡ t = omega arith in rw same (omega arith)
-demand-shift-times ks e L divides t (suc k) =
-    let next : t + suc k * L ≡ t + k * L + L = omega arith in
-    rw next (omega (arith, demand-shift ks e L divides (t + k * L), demand-shift-times ks e L divides t k))
-
 -- each task asks for at most one period more than t
 pub demand-bound : (ks : List Task) → validTasks ks ≡ true → (t : ℕ) → demand ks t ≤ length ks * (t + limit)
 unfolding demand

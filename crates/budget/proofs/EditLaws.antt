@@ -59,7 +59,7 @@ pub record SameAnswers (a b : Component) : Type 0 where
   pub adding : (k : Task) → addingAnswer a k ≡ addingAnswer b k
   pub removing : (at : ℕ) → removingAnswer a at ≡ removingAnswer b at
 
--- "components that differ only there count as the same": no answer reads the places from the count on
+-- components that are the same get the same answers: none reads the places from the count on
 pub same-answers : (a b : Component) → Same a b → SameAnswers a b
 unfolding componentRefusal commonPeriodAnswer commonPeriodOf validComponent interfaceOf addingAnswer addingRefusal removingAnswer removingRefusal edited withTasks
 same-answers a b s =

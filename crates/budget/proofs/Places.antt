@@ -8,11 +8,16 @@ use lib.ListN.{length, getD, take, drop, length-map, drop-of-length-le}
 use lib.Seq.{drop-cons, getD-take, length-take-le}
 use Rattle.budget.specs.declared.task.Task.{Task}
 use Rattle.budget.specs.Task.{noTask, validTasks}
+use Rattle.budget.specs.Limits.{most-tasks}
 use Rattle.budget.proofs.Valid.{ValidTask, valid-head, valid-tail}
 
 -- what owning an array of structs tells of its list stands at `map`
 pub length-mapped : {X Y : Type 0} (f : X → Y) (l : List X) (n : ℕ) → length (map f l) ≡ n → length l ≡ n
 length-mapped f l n p = sym (length-map l f) ∙ p
+
+-- every place of a count of at most 64 stands in such an array
+pub in-array : {X Y : Type 0} (f : X → Y) (l : List X) (n : ℕ) → length (map f l) ≡ most-tasks → n ≤ most-tasks → n ≤ length l
+in-array f l n p h = rw (length-mapped f l most-tasks p) h
 
 module _ (count : ℕ) (tasks : List Task) (fits : count ≤ length tasks) where
   pub places : length (take count tasks) ≡ count

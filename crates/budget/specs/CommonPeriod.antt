@@ -1,12 +1,12 @@
--- L, the least common multiple of Π and all T (01, "Numbers and components").
+-- The common period L, the least common multiple of Π and the T of every task (RULES 3).
 use Prim.Native.Nat.{ℕ, zero, suc, _*_, _/_, _%_}
-use mathlib.Core.Bool.{Bool, true, false}
+use mathlib.Core.Bool.{true, false}
 use mathlib.Core.List.{List, [], _∷_}
 use lib.Dec.{eqb}
 use Rattle.budget.specs.declared.task.Task.{Task}
 use Rattle.budget.specs.Task.{T}
 
--- Euclid's remainder rule, which ends at zero: the second number falls at each step, so as many steps as it has units are enough
+-- Euclid's rule of remainders, with a bound on its steps: the second number falls at each, so one step more than it has units is enough
 unfoldable pub euclid : ℕ → ℕ → ℕ → ℕ
 euclid zero a b = a
 euclid (suc steps) a b = elim (eqb b 0) [ true ↦ a | false ↦ euclid steps b (a % b) ]
@@ -19,7 +19,7 @@ commonDivisor a b = euclid (suc b) a b
 unfoldable pub commonMultiple : ℕ → ℕ → ℕ
 commonMultiple a b = a / commonDivisor a b * b
 
--- the least common multiple of a number and the periods of the tasks ("Π alone if there are no tasks")
+-- the least common multiple of a number and the periods of the tasks; without tasks the number itself
 unfoldable pub commonPeriod : ℕ → List Task → ℕ
 commonPeriod p [] = p
 commonPeriod p (k ∷ ks) = commonPeriod (commonMultiple p (T k)) ks

@@ -1,4 +1,4 @@
--- A component: a number, an interface whose capacity is stated or asked, and 0 to 64 tasks (01, "Numbers and components").
+-- A component: a number, an interface whose capacity is stated or asked, and a table of tasks (RULES 2).
 use Prim.Native.Nat.{ℕ}
 use mathlib.Core.Bool.{Bool, cond, _&&_}
 use mathlib.Core.List.{List, []}
@@ -29,7 +29,7 @@ interfaceAt c q = record { period = c .period; capacity = record { 0 = q }; dead
 unfoldable pub interfaceOf : Component → Interface
 interfaceOf c = interfaceAt c (unitsOf (c .capacity))
 
--- "components that differ only there count as the same"
+-- two components are the same one if they differ at most in the task places behind the count
 pub record Same (a b : Component) : Type 0 where
   pub number : a .number ≡ b .number
   pub period : a .period ≡ b .period
@@ -42,7 +42,7 @@ pub record Same (a b : Component) : Type 0 where
 unfoldable pub withTasks : Component → List Task → Component
 withTasks c ks = record { number = c .number; period = c .period; capacity = c .capacity; deadline = c .deadline; table = tableOf ks }
 
--- what stands where an edit or a reading is refused: "number 0, stated (1, 1, 1), without tasks"
+-- what stands where an edit or a reading is refused: number 0, the dedicated processor as its stated interface, no tasks (RULES 11)
 unfoldable pub refused : Component
 refused = record { number = 0; period = record { 0 = 1 }; capacity = Stated (record { 0 = 1 }); deadline = record { 0 = 1 }; table = tableOf [] }
 
@@ -58,7 +58,7 @@ rangeRefusal c = cond (ltb most-tasks (c .table .count)) refusal.tasks (cond (va
 unfoldable pub commonPeriodOf : Component → ℕ
 commonPeriodOf c = commonPeriod (c .period .0) (tasksOf (c .table))
 
--- "Component given directly: 6, 9, 10"
+-- the refusal of a component that is handed in: its ranges first, then 10 for a common period above the limit (RULES 13)
 unfoldable pub componentRefusal : Component → ℕ
 componentRefusal c =
     cond (ltb most-tasks (c .table .count)) refusal.tasks

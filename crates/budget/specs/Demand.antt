@@ -1,4 +1,4 @@
--- Demand at t: the sum over tasks with t ≥ D of (⌊(t−D)/T⌋ + 1) times C.
+-- Demand at t: the most work that can be released and fall due within t slots (RULES 4).
 use Prim.Native.Nat.{ℕ, _+_, _-_, _*_, _/_}
 use mathlib.Core.Bool.{cond}
 use mathlib.Core.List.{List, [], _∷_}
@@ -10,7 +10,7 @@ use Rattle.budget.specs.Limits.{limit}
 use Rattle.budget.specs.Refusal as refusal
 use Rattle.budget.specs.Task.{T, C, D, tasksOf, tableRefusal}
 
--- how many jobs of one task fall due by t
+-- how many jobs of one task fall due by t, the first at D and one after every T; none before D
 unfoldable pub jobsBy : Task → ℕ → ℕ
 jobsBy k t = cond (leb (D k) t) ((t - D k) / T k + 1) 0
 
@@ -18,7 +18,7 @@ unfoldable pub demand : List Task → ℕ → ℕ
 demand [] t = 0
 demand (k ∷ ks) t = jobsBy k t * C k + demand ks t
 
--- "t up to 1,048,576, else 9, after the table's 6 and 9"
+-- the table is judged first (6, 9), then the instant, which is 9 above the limit (RULES 13)
 unfoldable pub demandRefusal : Table → ℕ → ℕ
 demandRefusal table t =
     cond (eqb (tableRefusal table) refusal.none)

@@ -1,4 +1,4 @@
--- Adding and removing a task (01, "Order").
+-- Adding and removing a task (RULES 11, and 13 for what is refused first).
 use Prim.Native.Nat.{ℕ, suc}
 use mathlib.Core.Bool.{cond, _&&_}
 use mathlib.Core.List.{List, [], _∷_, _++_}
@@ -12,17 +12,17 @@ use Rattle.budget.specs.Limits.{most-tasks}
 use Rattle.budget.specs.Refusal as refusal
 use Rattle.budget.specs.Task.{validTask, tasksOf}
 
--- "Adding: 6 (also when 64 stand already), 9"
+-- adding: a table that has no room for one more is 6, then any number out of range, the new task's too, is 9
 unfoldable pub addingRefusal : Component → Task → ℕ
 addingRefusal c k =
     cond (leb most-tasks (c .table .count)) refusal.tasks
     (cond (validComponent c && validTask k) refusal.none refusal.range)
 
--- "the new task comes last"
+-- the new task stands behind the others
 unfoldable pub added : List Task → Task → List Task
 added ks k = ks ++ (k ∷ [])
 
--- "Removing: 6, 9, 15"
+-- removing: the ranges as ever, then a place at which no task stands is 15
 unfoldable pub removingRefusal : Component → ℕ → ℕ
 removingRefusal c at =
     cond (ltb most-tasks (c .table .count)) refusal.tasks
@@ -30,7 +30,7 @@ removingRefusal c at =
     (cond (ltb at (c .table .count)) refusal.none refusal.place)
     refusal.range)
 
--- "later tasks move down one"
+-- the tasks behind the place close the gap
 unfoldable pub removed : List Task → ℕ → List Task
 removed ks at = take at ks ++ drop (suc at) ks
 

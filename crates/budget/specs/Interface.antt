@@ -1,4 +1,4 @@
--- An interface (Π, Θ, Δ) (01, "Numbers and components").
+-- An interface (Π, Θ, Δ) (RULES 2).
 use Prim.Native.Nat.{ℕ}
 use mathlib.Core.Bool.{Bool, cond, _&&_}
 use lib.Dec.{leb}
@@ -20,11 +20,11 @@ abbrev pub Δ : Interface → ℕ
 abbrev pub interface : ℕ → ℕ → ℕ → Interface
 interface p q d = record { period = record { 0 = p }; capacity = record { 0 = q }; deadline = record { 0 = d } }
 
--- "The dedicated processor is the interface (1, 1, 1)"
+-- the processor that one component has to itself: each slot is a period, and each is supplied
 abbrev pub dedicated : Interface
 dedicated = interface 1 1 1
 
--- "0 ≤ Θ ≤ Δ ≤ Π ≤ 1,048,576 and Δ ≥ 1"
+-- the range of an interface: the capacity fits into the deadline, which is at least 1 and fits into the period
 unfoldable pub validInterface : Interface → Bool
 validInterface i = leb (Θ i) (Δ i) && (leb (Δ i) (Π i) && (leb (Π i) limit && leb 1 (Δ i)))
 

@@ -1,10 +1,10 @@
--- The limits of 01, "Numbers and components".
+-- The limits on time and on the count of tasks (RULES 2).
 use Prim.Native.Nat.{ℕ}
 
--- "≤ 1,048,576": the largest period, deadline, common period and instant
+-- the largest period, deadline, common period and instant
 abbrev pub limit : ℕ
 limit = 1_048_576
 
--- "0 to 64 tasks"
+-- the most tasks of a component
 abbrev pub most-tasks : ℕ
 most-tasks = 64

@@ -1,65 +1,65 @@
--- The numbers of 01, "Refusal numbers", by name. 0 stands for no refusal.
+-- The refusal numbers by name (RULES 12). 0 stands for no refusal.
 use Prim.Native.Nat.{ℕ}
 
 abbrev pub none : ℕ
 none = 0
 
--- fewer than 4 bytes left where a record must begin, or the record runs past the end
+-- a sheet that ends inside a record, or where one has to begin
 abbrev pub cut : ℕ
 cut = 1
 
--- kind not in the list
+-- a record of a kind that there is not
 abbrev pub kind : ℕ
 kind = 2
 
--- length not that kind's
+-- a record whose length is not its kind's
 abbrev pub bad-length : ℕ
 bad-length = 3
 
--- task before any component
+-- a task that no component stands before
 abbrev pub no-component : ℕ
 no-component = 4
 
--- component number not above the one before
+-- component numbers that do not rise
 abbrev pub number : ℕ
 number = 5
 
--- more than 64 tasks
+-- too many tasks of one component
 abbrev pub tasks : ℕ
 tasks = 6
 
--- a 257th component
+-- too many components of one sheet
 abbrev pub components : ℕ
 components = 7
 
--- end count wrong, or bytes after the end record
+-- an end record that counts wrongly, or that is not the last
 abbrev pub end : ℕ
 end = 8
 
--- a number outside its range, or an offset not below Π
+-- a number out of its range
 abbrev pub range : ℕ
 range = 9
 
--- L too long
+-- a common period above the limit
 abbrev pub long : ℕ
 long = 10
 
--- too little room, a place past the buffer, or a work-left buffer whose length isn't the job count
+-- a buffer that does not fit what is to be written
 abbrev pub room : ℕ
 room = 11
 
--- job list breaks a rule of the run
+-- jobs that are no legal arrival, or that the walk has no room for
 abbrev pub jobs : ℕ
 jobs = 12
 
--- trace longer than 65,536, or a byte not 0 or 1
+-- a trace that is too long, or that has a byte other than 0 and 1
 abbrev pub bad-trace : ℕ
 bad-trace = 13
 
--- sheet longer than 65,536 bytes
+-- a sheet that is too long
 abbrev pub sheet : ℕ
 sheet = 14
 
--- no component or task at that place
+-- a place at which no component or task stands
 abbrev pub place : ℕ
 place = 15

@@ -1,4 +1,4 @@
--- Supply at t: 0 if t < Δ−Θ; else, with y = ⌊(t−(Δ−Θ))/Π⌋, it is yΘ + max(0, t−(Π+Δ−2Θ)−yΠ).
+-- Supply at t, in closed form: the fewest units that t slots of the interface bring (RULES 6).
 use Prim.Native.Nat.{ℕ, _+_, _-_, _*_, _/_}
 use mathlib.Core.Bool.{cond}
 use lib.Dec.{leb, ltb, eqb}
@@ -12,13 +12,13 @@ use Rattle.budget.specs.Refusal as refusal
 unfoldable pub wholePeriods : Interface → ℕ → ℕ
 wholePeriods i t = (t - (Δ i - Θ i)) / Π i
 
--- the difference of natural numbers is 0 where it would be negative, which is the rules' max(0, ..)
+-- Π + Δ − 2Θ is the longest gap; a difference of natural numbers is 0 where it would be negative
 unfoldable pub supply : Interface → ℕ → ℕ
 supply i t =
     cond (ltb t (Δ i - Θ i)) 0
     (wholePeriods i t * Θ i + (t - (Π i + Δ i - 2 * Θ i) - wholePeriods i t * Π i))
 
--- "t up to 1,048,576, else 9, after .. the interface's 9"
+-- the interface is judged first, then the instant: each is 9 out of its range (RULES 13)
 unfoldable pub supplyRefusal : Interface → ℕ → ℕ
 supplyRefusal i t =
     cond (eqb (interfaceRefusal i) refusal.none)

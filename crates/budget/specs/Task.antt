@@ -1,4 +1,4 @@
--- A task (T, C, D) and a table of tasks (01, "Numbers and components").
+-- A task (T, C, D) and a table of tasks (RULES 2).
 use Prim.Native.Nat.{ℕ, _+_, _-_}
 use mathlib.Core.Bool.{Bool, true, cond, _&&_}
 use mathlib.Core.List.{List, [], _∷_, _++_}
@@ -19,7 +19,7 @@ C k = k .work .0
 abbrev pub D : Task → ℕ
 D k = k .deadline .0
 
--- "1 ≤ C ≤ D ≤ T ≤ 1,048,576"
+-- the range of a task: a work of at least 1, no longer than the deadline, which is no longer than the period
 unfoldable pub validTask : Task → Bool
 validTask k = leb 1 (C k) && (leb (C k) (D k) && (leb (D k) (T k) && leb (T k) limit))
 
@@ -34,11 +34,11 @@ validTasks (k ∷ ks) = validTask k && validTasks ks
 abbrev pub noTask : Task
 noTask = record { period = record { 0 = 0 }; work = record { 0 = 0 }; deadline = record { 0 = 0 } }
 
--- "Task places from the count on are ignored in what is given": a table's tasks are its first `count` places
+-- a table's tasks are its first `count` places; what stands behind them means nothing
 unfoldable pub tasksOf : Table → List Task
 tasksOf t = take (t .count) (t .tasks)
 
--- "and zero in what is returned": the one table that is returned for these tasks
+-- the one table that is handed back for these tasks, with zeros behind them
 unfoldable pub tableOf : List Task → Table
 tableOf ks = record { count = length ks; tasks = ks ++ replicate (most-tasks - length ks) noTask }
 

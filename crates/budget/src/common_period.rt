@@ -1,3 +1,4 @@
+// The common period L of a component (RULES 3).
 use crate::component::Component;
 use crate::component::check_ranges;
 use crate::quantity::Time;
@@ -18,7 +19,7 @@ pub struct CommonPeriod {
     pub length: Time,
 }
 
-// The greatest common divisor by Euclid's remainder rule, which ends at zero.
+// The greatest common divisor by Euclid's rule: the second number falls with each remainder, until it is 0.
 pub fn common_divisor(a: u32, b: u32) -> u32
     ensures { λ r. ⌜ r ≡ commonDivisor a b ⌝ }
 {

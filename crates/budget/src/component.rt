@@ -1,4 +1,4 @@
-use crate::common_period::common_period;
+// A component (RULES 2): its capacity, its interface, and the refusals of its ranges.
 use crate::interface::Interface;
 use crate::interface::check_interface;
 use crate::quantity::Time;
@@ -8,9 +8,9 @@ use crate::task::Table;
 use crate::task::check_table;
 use crate::task::no_tasks;
 ghost use mathlib.Core.Path.{_≡_};
-ghost use Rattle.budget.specs.Component.{refused, interfaceOf, rangeRefusal, componentRefusal};
+ghost use Rattle.budget.specs.Component.{refused, interfaceOf, rangeRefusal};
 
-// A component's capacity is either stated or asked.
+// The capacity of a component: stated in units, or asked for.
 pub enum Capacity {
     Stated(Units),
     Asked,
@@ -25,7 +25,7 @@ pub struct Component {
     pub table: Table,
 }
 
-// What stands where an edit or a reading is refused: number 0, stated (1, 1, 1), without tasks.
+// What stands where an edit or a reading is refused: number 0, the dedicated processor as its stated interface, no tasks.
 pub fn refused() -> Component
     ensures { λ r. ⌜ r ≡ refused ⌝ }
 {
@@ -74,11 +74,4 @@ pub fn check_ranges(component: Component) -> u16
         return refused;
     }
     check_interface(interface_of(component))
-}
-
-// The refusal of a component: 6, 9, and 10 where its common period is too long.
-pub fn check_component(component: Component) -> u16
-    ensures { λ r. ⌜ r ≡ componentRefusal component ⌝ }
-{
-    common_period(component).refusal
 }

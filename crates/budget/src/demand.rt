@@ -1,4 +1,4 @@
-// Demand of a task table at an instant.
+// Demand of a task table at an instant (RULES 4).
 use crate::quantity::Amount;
 use crate::quantity::Time;
 use crate::quantity::Units;

@@ -1,3 +1,4 @@
+// Adding a task to a component, and removing one (RULES 11).
 use crate::component::Component;
 use crate::component::check_ranges;
 use crate::component::refused;
@@ -16,7 +17,7 @@ ghost use Rattle.budget.specs.Edit.{addingAnswer, removingAnswer};
 ghost use Rattle.budget.specs.Limits.{most-tasks};
 ghost use Rattle.budget.specs.Task.{tasksOf, tableOf};
 
-// What an edit answers; refused: component number 0, stated (1, 1, 1), without tasks.
+// What an edit answers; refused: the component that stands for none.
 pub struct Edited {
     pub refusal: u16,
     pub component: Component,
@@ -72,7 +73,7 @@ fn with_table(component: Component, table: Table) -> Edited
     }
 }
 
-// The component with a task more, which comes last.
+// The component with a task more, behind the others.
 pub fn add_task(component: Component, task: Task) -> Edited
     ensures { λ r. ⌜ r ≡ addingAnswer component task ⌝ }
 {
@@ -93,7 +94,7 @@ pub fn add_task(component: Component, task: Task) -> Edited
     with_table(component, append(stood, task))
 }
 
-// The component without the task at a place; later tasks move down one.
+// The component without the task at a place; the tasks behind it close the gap.
 pub fn remove_task(component: Component, place: usize) -> Edited
     ensures { λ r. ⌜ r ≡ removingAnswer component place ⌝ }
 {

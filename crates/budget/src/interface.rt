@@ -1,3 +1,4 @@
+// An interface (RULES 2), its limits and its refusal.
 use crate::quantity::Time;
 use crate::quantity::Units;
 use crate::refusal;

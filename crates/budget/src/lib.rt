@@ -1,4 +1,5 @@
 // The ground of the judge: quantities, tasks, interfaces, components, their common period, demand and supply.
+pub mod check;
 pub mod common_period;
 pub mod component;
 pub mod demand;

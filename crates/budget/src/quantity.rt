@@ -1,4 +1,4 @@
-// Time is counted in slots and service in units: two types, so that neither stands where the other belongs.
+// Slots of time and units of service (RULES 1), each a type of its own, so that neither can stand where the other belongs.
 
 use crate::refusal;
 ghost use mathlib.Core.Path.{_≡_};

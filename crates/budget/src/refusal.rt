@@ -1,32 +1,32 @@
-// The refusal numbers of the rules, in one place. 0 stands for no refusal.
+// The refusal numbers by name (RULES 12). 0 stands for no refusal.
 pub const NONE: u16 = 0;
-// Fewer than 4 bytes left where a record must begin, or the record runs past the end.
+// A sheet that ends inside a record, or where one has to begin.
 pub const CUT: u16 = 1;
-// A kind that is not in the list.
+// A record of a kind that there is not.
 pub const KIND: u16 = 2;
-// A length that is not that kind's.
+// A record whose length is not its kind's.
 pub const LENGTH: u16 = 3;
-// A task before any component.
+// A task that no component stands before.
 pub const NO_COMPONENT: u16 = 4;
-// A component number not above the one before.
+// Component numbers that do not rise.
 pub const NUMBER: u16 = 5;
-// More than 64 tasks.
+// Too many tasks of one component.
 pub const TASKS: u16 = 6;
-// A 257th component.
+// Too many components of one sheet.
 pub const COMPONENTS: u16 = 7;
-// A wrong end count, or bytes after the end record.
+// An end record that counts wrongly, or that is not the last.
 pub const END: u16 = 8;
-// A number outside its range, or an offset not below the period.
+// A number out of its range.
 pub const RANGE: u16 = 9;
-// A common period that is too long.
+// A common period above the limit.
 pub const LONG: u16 = 10;
-// Too little room, a place past the buffer, or a work-left buffer whose length isn't the job count.
+// A buffer that does not fit what is to be written.
 pub const ROOM: u16 = 11;
-// A job list that breaks a rule of the run.
+// Jobs that are no legal arrival, or that the walk has no room for.
 pub const JOBS: u16 = 12;
-// A trace that is too long, or a byte of it that is not 0 or 1.
+// A trace that is too long, or that has a byte other than 0 and 1.
 pub const TRACE: u16 = 13;
-// A sheet longer than 65,536 bytes.
+// A sheet that is too long.
 pub const SHEET: u16 = 14;
-// No component or task at that place.
+// A place at which no component or task stands.
 pub const PLACE: u16 = 15;

@@ -1,4 +1,4 @@
-// Supply of an interface at an instant.
+// Supply of an interface at an instant (RULES 6).
 use crate::interface::Interface;
 use crate::interface::check_interface;
 use crate::quantity::Amount;

@@ -1,3 +1,4 @@
+// A task and a table of tasks (RULES 2), and their refusals.
 use crate::quantity::Time;
 use crate::quantity::Units;
 use crate::refusal;
@@ -16,7 +17,7 @@ pub struct Task {
     pub deadline: Time,
 }
 
-// A task table: the tasks are the first `count` places; the places from there on are ignored.
+// A task table: the tasks are the first `count` places; nothing reads the places behind them.
 pub struct Table {
     pub count: usize,
     pub tasks: [Task; 64],
@@ -92,7 +93,7 @@ pub fn no_tasks() -> Table
     }
 }
 
-// The table with one task more, which comes last; a full table stays as it is.
+// The table with one task more, behind the others; a full table stays as it is.
 pub fn append(table: Table, task: Task) -> Table
     ensures { λ r. ⌜ r ≡ appended table task ⌝ }
 {

@@ -16,8 +16,9 @@ use Rattle.budget.specs.Supply.{supply}
 use Rattle.budget.specs.Task.{tasksOf}
 use Rattle.budget.proofs.SupplyLaws.{supply-capacity}
 use Rattle.budget.proofs.Valid.{ValidInterface, valid-interface, interface-valid}
-use Rattle.judge.specs.Capacity.{Raised, smallestCapacity, capacityOf}
+use Rattle.judge.specs.Capacity.{smallestCapacity, capacityOf}
 use Rattle.judge.specs.Verdict.{accepts}
+use Rattle.judge.specs.inner.Raise.{Raised}
 use Rattle.judge.proofs.SearchLaws.{smallest-only}
 use Rattle.judge.proofs.VerdictLaws.{FitsBefore, fits-start, fits-on, accepts-fits, fits-accepts}
 

@@ -22,7 +22,7 @@ use Rattle.budget.proofs.SupplyLaws.{supply-zero, supply-le-time}
 use Rattle.budget.proofs.Valid.{ValidInterface, valid-interface}
 use Rattle.judge.specs.declared.margin.Tight.{Tight}
 use Rattle.judge.specs.Margin.{Step, Tightest, tightAt, tried, tightInstant}
-use Rattle.judge.specs.Verdict.{Scannable}
+use Rattle.judge.specs.inner.Scan.{Scannable}
 
 -- what the walk has shown before `at`: the tightest of all instants up to any from the last one passed on
 pub record Best (ks : List Task) (i : Interface) (n at : ℕ) (best : Tight) : Type 0 where

@@ -24,9 +24,10 @@ use Rattle.budget.proofs.SupplyLaws.{supply-mono, supply-add}
 use Rattle.budget.proofs.Valid.{ValidInterface, valid-head}
 use Rattle.judge.specs.declared.answer.Margined.{Margined}
 use Rattle.judge.specs.declared.answer.Margined.the-variants as Variant
-use Rattle.judge.specs.Margin.{Step, Tightest, MarginSays, tightInstant, marginAt, marginOn, marginOf}
+use Rattle.judge.specs.Margin.{Step, Tightest, tightInstant, marginAt, marginOn, marginOf}
 use Rattle.judge.specs.Signed.{isNegative}
 use Rattle.judge.specs.Verdict.{Accepted, ShortAt, accepts}
+use Rattle.judge.specs.inner.MarginSays.{MarginSays}
 use Rattle.judge.proofs.Instants.{no-smaller}
 use Rattle.judge.proofs.MarginLaws.{tight-known}
 use Rattle.judge.proofs.VerdictLaws.{accepts-fits, short-refuses}
@@ -87,7 +88,7 @@ module _ (ks : List Task) (v : validTasks ks ≡ true) (i : Interface) (w : Vali
   short-step zero s = omega (arith, s .short, demand-zero ks v)
   short-step (suc p) s = omega (arith, s .short, s .first (suc p) (omega arith) (omega arith), supply-mono i w (suc p) (suc (suc p)) (omega arith))
 
-  -- "negative exactly when the component is short"; without a margin the number is 0 and the component is accepted
+  -- a margin is below 0 where the component is short, and nowhere else; without a margin the number is 0 and the component is accepted
   pub margin-negative : isNegative (marginOf (marginOn ks i (commonPeriod (Π i) ks))) ≡ not (accepts ks i (commonPeriod (Π i) ks))
   margin-negative = split (accepts ks i (commonPeriod (Π i) ks)) refl (marginOn ks i (commonPeriod (Π i) ks)) (margin-right ks i (commonPeriod (Π i) ks))
     where
@@ -112,7 +113,7 @@ module _ (ks : List Task) (v : validTasks ks ≡ true) (i : Interface) (w : Vali
       split true e Variant.None p = refl
       split false e Variant.None p = let s = short-refuses ks i _ e in absurd (no-short _ p (s .0) (s .1))
 
-  -- "For an accepted component no later step instant has a smaller one"
+  -- an accepted component has no smaller margin at any step instant past L
   pub margin-later : Accepted ks i → (t : ℕ) → Tightest ks i (commonPeriod (Π i) ks) t → (p : ℕ) → Step ks p → supply i t + demand ks (suc p) ≤ supply i (suc p) + demand ks t
   unfolding Accepted
   margin-later fits t a =

@@ -1,4 +1,4 @@
--- "components that differ only there count as the same" (01, "Numbers and components"): no answer of the judge reads the task places from the count on.
+-- Components that are the same (RULES 2) are judged alike: no answer of the judge reads the task places from the count on.
 use mathlib.Core.Path.{_≡_}
 use Rattle.budget.specs.declared.component.Capacity.{Capacity}
 use Rattle.budget.specs.declared.component.Capacity.the-variants.{Stated, Asked}

@@ -21,7 +21,7 @@ use Rattle.budget.proofs.DemandLaws.{jobs-next-after, jobs-same-until, jobs-at-
 use Rattle.budget.proofs.Places.{places}
 use Rattle.budget.proofs.Valid.{ValidTask, valid-at}
 use Rattle.judge.specs.declared.steps.Columns.{Columns}
-use Rattle.judge.specs.Steps.{Column, Columned, Passed, Steppable, passed, dueWork}
+use Rattle.judge.specs.inner.Steps.{Column, Columned, Passed, Steppable, passed, dueWork}
 
 -- the first deadline of a task after an instant
 abbrev pub nextDeadline : Task → ℕ → ℕ

@@ -16,7 +16,7 @@ use native.Mathlib.Omega.{arith}
 use Rattle.budget.specs.declared.task.Task.{Task}
 use Rattle.budget.specs.Limits.{limit, most-tasks}
 use Rattle.budget.specs.Task.{noTask}
-use Rattle.judge.specs.Steps.{Column, Passed, Next, passed, dueWork}
+use Rattle.judge.specs.inner.Steps.{Column, Passed, Next, passed, dueWork}
 
 -- an empty column, and one place more
 pub column-none : (of : Task → ℕ) (ks : List Task) (xs : List ℕ) → length xs ≡ most-tasks → Column of ks 0 xs

@@ -112,7 +112,7 @@ module _ (ks : List Task) (v : validTasks ks ≡ true) (i : Interface) (w : Vali
   period-some : 1 ≤ Π i
   period-some = omega (arith, w .some, w .within)
 
-  -- "Accepted: for every t ≥ 1, demand ≤ supply", with no limit on t: fitting up to L is enough
+  -- fitting up to L is fitting at every instant, with no limit
   pub accepted-unlimited : ((t : ℕ) → 1 ≤ t → t ≤ commonPeriod (Π i) ks → demand ks t ≤ supply i t) → Accepted ks i
   unfolding Accepted
   accepted-unlimited =
@@ -132,7 +132,7 @@ module _ (ks : List Task) (v : validTasks ks ≡ true) (i : Interface) (w : Vali
       pick true e = accepts-accepted e
       pick false e = short-refuses ks i (commonPeriod (Π i) ks) e .1
 
-  -- "That instant, if any, is at most L"
+  -- the first short instant lies within L
   pub short-within : (t : ℕ) → ShortAt ks i t → t ≤ commonPeriod (Π i) ks
   short-within t s = pick (accepts ks i (commonPeriod (Π i) ks)) refl
     where

@@ -15,8 +15,8 @@ use Rattle.budget.specs.Interface.{validInterface}
 use Rattle.budget.specs.Refusal as refusal
 use Rattle.budget.proofs.Ranges.{unrefused}
 use Rattle.budget.proofs.Valid.{valid-interface}
-use Rattle.judge.specs.Verdict.{Scannable}
 use Rattle.judge.proofs.CapacityLaws.{capacity-valid}
+use Rattle.judge.specs.inner.Scan.{Scannable}
 
 module _ (c : Component) where
   -- a component that is not refused has every capacity up to its deadline in range

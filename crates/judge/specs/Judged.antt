@@ -1,4 +1,4 @@
--- What judging a component answers (01, "Verdict"), for a capacity stated or asked.
+-- What judging a component answers, for a capacity stated or asked (RULES 7).
 use Prim.Native.Nat.{ℕ}
 use mathlib.Core.Bool.{cond}
 use lib.Dec.{leb, eqb}
@@ -15,13 +15,13 @@ use Rattle.judge.specs.declared.answer.Verdict.the-variants as Variant
 use Rattle.judge.specs.Capacity.{capacityOf}
 use Rattle.judge.specs.Verdict.{verdictOn}
 
--- the host reply's code: "0 accepted, 1 short, 2 none"
+-- the code of a verdict in the host's reply (RULES 14)
 abbrev pub codeOf : Verdict → ℕ
 codeOf Variant.Accepted = 0
 codeOf (Variant.Short t) = 1
 codeOf Variant.None = 2
 
--- the first short instant; "Unused fields are 0"
+-- the first short instant, and 0 where there is none
 abbrev pub instantOf : Verdict → ℕ
 instantOf Variant.Accepted = 0
 instantOf (Variant.Short t) = t .0

@@ -3,5 +3,5 @@ pub mod Judged
 pub mod Margin
 pub mod Search
 pub mod Signed
-pub mod Steps
 pub mod Verdict
+pub mod inner

@@ -1,7 +1,6 @@
--- The margin (01, "Margin"): "The least supply minus demand over the step instants t from 1 to L, where demand at t exceeds demand at t−1, with the
--- smallest such instant."
-use Prim.Native.Nat.{ℕ, zero, suc, _+_, _*_, _≤_, _<_}
-use mathlib.Core.Bool.{true, cond}
+-- The margin: what supply has over demand at the step instant, of those up to L, where that is least, and the first such instant (RULES 8).
+use Prim.Native.Nat.{ℕ, zero, suc, _+_, _≤_, _<_}
+use mathlib.Core.Bool.{cond}
 use mathlib.Core.List.{List}
 use mathlib.Core.Path.{_≡_}
 use lib.Dec.{leb, ltb, eqb}
@@ -13,8 +12,6 @@ use Rattle.budget.specs.declared.interface.Interface.{Interface}
 use Rattle.budget.specs.declared.task.Task.{Task}
 use Rattle.budget.specs.Component.{interfaceAt, commonPeriodOf, componentRefusal}
 use Rattle.budget.specs.Demand.{demand}
-use Rattle.budget.specs.Interface.{validInterface}
-use Rattle.budget.specs.Limits.{limit, most-tasks}
 use Rattle.budget.specs.Refusal as refusal
 use Rattle.budget.specs.Supply.{supply}
 use Rattle.budget.specs.Task.{tasksOf}
@@ -64,7 +61,7 @@ marginOn ks i n =
     let t = tightInstant ks i n in
     cond (eqb t 0) Variant.None (Variant.Least (marginAt ks i t) (record { 0 = t }))
 
--- "A component with no tasks, or answered none, has no margin; an asked one is measured at the capacity found"
+-- a component is measured at its capacity, stated or found; without tasks, or answered none, it has no margin
 unfoldable pub marginedAt : Component → Capacity → Margined
 marginedAt c (Stated u) = marginOn (tasksOf (c .table)) (interfaceAt c (u .0)) (commonPeriodOf c)
 marginedAt c Asked =
@@ -76,7 +73,7 @@ marginedAt c Asked =
 unfoldable pub marginAnswer : Component → Margined
 marginAnswer c = cond (eqb (componentRefusal c) refusal.none) (marginedAt c (c .capacity)) (Variant.Refused (componentRefusal c))
 
--- the margin and its instant as numbers; "margin instant 0 says no margin"
+-- the margin and its instant as numbers: the instant is 0 where there is no margin
 abbrev pub marginOf : Margined → ℤ
 marginOf (Variant.Refused n) = pos 0
 marginOf (Variant.Least m t) = m
@@ -86,17 +83,3 @@ abbrev pub marginInstantOf : Margined → ℕ
 marginInstantOf (Variant.Refused n) = 0
 marginInstantOf (Variant.Least m t) = t .0
 marginInstantOf Variant.None = 0
-
--- what each answer says: the margin is that of the tightest step instant, and there is none exactly where there is no step instant
-abbrev pub MarginSays : List Task → Interface → ℕ → Margined → Type 0
-MarginSays ks i n (Variant.Refused r) = ⊥
-MarginSays ks i n (Variant.Least m t) = Tightest ks i n (t .0) × (m ≡ marginAt ks i (t .0))
-MarginSays ks i n Variant.None = (p : ℕ) → suc p ≤ n → ¬ Step ks p
-
--- what an instant is tried with: numbers in their ranges
-pub record Triable (best : Tight) (i : Interface) (at asked : ℕ) : Type 0 where
-  pub interface : validInterface i ≡ true
-  pub bounded : at ≤ limit
-  pub asked-fits : asked ≤ most-tasks * (2 * limit)
-  pub best-fits : best .demand ≤ most-tasks * (2 * limit)
-  pub units-fit : best .units ≤ limit

@@ -1,4 +1,4 @@
--- "the smallest .. where ..": the one search that every smallest number of the judge is defined by.
+-- The one search that every smallest number of the judge is defined by: the first short instant, the smallest capacity (RULES 7).
 use Prim.Native.Nat.{ℕ, zero, suc}
 use mathlib.Core.Bool.{Bool, true, false, cond}
 use lib.Dec.{ltb}

@@ -1,4 +1,4 @@
--- A signed number as a line and the host's reply hold it (01, "The host's calls": "margin (signed) .. 4 bytes").
+-- A signed margin as the host's reply (RULES 14) and a line of the listing (RULES 15) hold it.
 use Prim.Native.Nat.{ℕ, _-_}
 use mathlib.Core.Bool.{Bool, true, false}
 use lib.IntN.{ℤ, pos, negsuc}

@@ -1,3 +1,4 @@
+// What the judge answers: a verdict, a margin, a smallest capacity (RULES 7, 8).
 use budget::quantity::Time;
 use budget::quantity::Units;
 

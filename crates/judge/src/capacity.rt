@@ -1,4 +1,4 @@
-// The smallest capacity that is accepted for a component's period, deadline and tasks.
+// The smallest capacity that is accepted for a component's period, deadline and tasks (RULES 7).
 use crate::answer::Smallest;
 use crate::steps::columns_of;
 use crate::steps::pass;
@@ -14,8 +14,9 @@ ghost use mathlib.Core.Path.{_≡_};
 ghost use Rattle.budget.specs.Interface.{interface};
 ghost use Rattle.budget.specs.Supply as Supply;
 ghost use Rattle.budget.specs.Task.{tasksOf};
-ghost use Rattle.judge.specs.Capacity.{Raisable, Raised, capacityAnswer, smallestCapacity};
-ghost use Rattle.judge.specs.Verdict.{Scannable};
+ghost use Rattle.judge.specs.Capacity.{capacityAnswer, smallestCapacity};
+ghost use Rattle.judge.specs.inner.Raise.{Raisable, Raised};
+ghost use Rattle.judge.specs.inner.Scan.{Scannable};
 
 // The units at an instant for this capacity.
 fn units_at(period: Time, capacity: u32, deadline: Time, at: u32) -> u32

@@ -1,4 +1,4 @@
-// The margin of a component: the least supply minus demand over its step instants, and the first instant that has it.
+// The margin of a component (RULES 8): what supply has over demand where that is least, over its step instants, and the first such instant.
 use crate::answer::Margined;
 use crate::capacity::least_capacity;
 use crate::steps::columns_of;
@@ -19,8 +19,8 @@ ghost use lib.IntN.{subℕ};
 ghost use Rattle.budget.specs.Component.{interfaceAt, commonPeriodOf};
 ghost use Rattle.budget.specs.Limits.{limit};
 ghost use Rattle.budget.specs.Task.{tasksOf};
-ghost use Rattle.judge.specs.Margin.{Triable, marginAnswer, marginOn, marginedAt, tightAt, tightInstant, tried};
-ghost use Rattle.judge.specs.Verdict.{Scannable};
+ghost use Rattle.judge.specs.Margin.{marginAnswer, marginOn, marginedAt, tightAt, tightInstant, tried};
+ghost use Rattle.judge.specs.inner.Scan.{Scannable, Triable};
 
 // The tightest step instant so far, with supply and demand there; instant 0 where there is none yet.
 pub struct Tight {

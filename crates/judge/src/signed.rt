@@ -1,4 +1,4 @@
-// A signed margin as the numbers that a reply and a line hold: its sign, its magnitude, its 32 bits.
+// A signed margin as the numbers that a reply and a line hold: its sign, its magnitude, its 32 bits (RULES 14, 15).
 ghost use mathlib.Core.Path.{_≡_};
 ghost use lib.IntN.{natAbs};
 ghost use Rattle.judge.specs.Signed.{isNegative, signedBits};

@@ -1,8 +1,8 @@
 // The step instants of a task table, where demand rises: from one to the next without a division, each task's next deadline carried beside it.
 use budget::task::Table;
 ghost use mathlib.Core.Path.{_≡_};
-ghost use Prim.Native.Nat.{_≤_};
-ghost use Rattle.judge.specs.Steps.{Columned, Stepped, Steppable};
+ghost use Prim.Native.Nat.{min};
+ghost use Rattle.judge.specs.inner.Steps.{Columned, Stepped, Steppable};
 
 // A table's periods, works and next deadlines, task by task.
 pub struct Columns {
@@ -19,7 +19,7 @@ pub struct Step {
 
 // The earlier of two instants.
 fn earlier(a: u32, b: u32) -> u32
-    ensures { λ r. ⌜ r ≡ Prim.Native.Nat.min a b ⌝ }
+    ensures { λ r. ⌜ r ≡ min a b ⌝ }
 {
     if a < b {
         return a;

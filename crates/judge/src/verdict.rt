@@ -1,4 +1,4 @@
-// The verdict on a component: accepted, short at the first short instant, or none.
+// The verdict on a component (RULES 7): accepted, short at the first short instant, or none.
 use crate::answer::Judged;
 use crate::answer::Verdict;
 use crate::capacity::least_capacity;
@@ -17,7 +17,8 @@ ghost use mathlib.Core.Path.{_≡_};
 ghost use Rattle.budget.specs.Component.{interfaceAt, commonPeriodOf};
 ghost use Rattle.budget.specs.Task.{tasksOf};
 ghost use Rattle.judge.specs.Judged.{judgedAt, verdictAnswer};
-ghost use Rattle.judge.specs.Verdict.{Scannable, firstShort};
+ghost use Rattle.judge.specs.Verdict.{firstShort};
+ghost use Rattle.judge.specs.inner.Scan.{Scannable};
 
 // The first short instant from 1 to `length`, or `length` + 1 where there is none. Between step instants demand stands still and supply never
 // falls, so only step instants are tried.

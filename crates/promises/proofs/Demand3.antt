@@ -1,4 +1,4 @@
--- The statements of the third demand, proved.
+-- Demand 3, and the statements of its core: what was shown of the run, of demand and of the worst trace, put together.
 use Prim.Native.Nat.{ℕ, _+_, _≤_, _<_}
 use mathlib.Core.Bool.{Bool, cond, false, true}
 use mathlib.Core.List.{List}
@@ -36,12 +36,13 @@ use Rattle.trace.proofs.Units.{supplied-part}
 use Rattle.trace.proofs.Windows.{window-units}
 use Rattle.trace.specs.WorstTrace.{worstOffset, worstTrace}
 use Rattle.trace.proofs.WorstTrace.{worst-bits, worst-legal, worst-length, worst-prefix, worst-within}
-use Rattle.promises.specs.Demand3.{AcceptedNeverMisses, AskedPromise, CapacityPromise, Demand3, Promise, StatedPromise, Balance, EarliestDeadlineFirst, Misses, NoMissWhileFitting, Run, RunByEarliestDeadline, ShortMissesThen, UrgentWork, WorkWithinDemand}
-use Rattle.promises.specs.Serving.{dueBy, unitOf, workOf}
+use Rattle.promises.specs.Demand3.{AskedPromise, CapacityPromise, Demand3, Misses, Promise, Run, StatedPromise}
+use Rattle.promises.specs.inner.Core.{AcceptedNeverMisses, Balance, EarliestDeadlineFirst, NoMissWhileFitting, ShortMissesThen, UrgentWork, WorkWithinDemand}
+use Rattle.promises.specs.inner.Serving.{dueBy, unitOf, workOf}
 use Rattle.promises.specs.Synchronous.{synchronous}
 use Rattle.promises.proofs.Capacity.{least-accepted, short-none, smaller-short}
 use Rattle.promises.proofs.DemandBound as DemandBound
-use Rattle.promises.proofs.EarliestDeadline.{earliest-first, left-at-by}
+use Rattle.promises.proofs.EarliestDeadline.{earliest-first}
 use Rattle.promises.proofs.NoMiss.{late-by, no-miss, too-few}
 use Rattle.promises.proofs.Serving.{flow}
 use Rattle.promises.proofs.Synchronous.{synchronous-asks, synchronous-legal}
@@ -55,9 +56,6 @@ balance = window
 
 pub earliest-deadline-first : EarliestDeadlineFirst
 earliest-deadline-first = earliest-first
-
-pub run-by-earliest-deadline : RunByEarliestDeadline
-run-by-earliest-deadline = left-at-by
 
 pub work-within-demand : WorkWithinDemand
 work-within-demand = DemandBound.work-within-demand

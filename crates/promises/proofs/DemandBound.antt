@@ -14,12 +14,11 @@ use Rattle.budget.specs.Task.{T, C, D, noTask, validTasks}
 use Rattle.budget.specs.Demand.{demand, jobsBy}
 use Rattle.budget.proofs.Valid.{both, and-true, ValidTask, valid-at}
 use Rattle.budget.proofs.DemandLaws.{jobs-next-after}
-use Rattle.run.specs.Job.{Job, deadline, validJob, beforeAll, legalArrival}
-use Rattle.run.specs.Run.{noJob}
+use Rattle.run.specs.Job.{Job, deadline, validJob, beforeAll, legalArrival, noJob}
 use Rattle.run.proofs.Arrival.{ValidJob, apart-at, arrival-at, task-of, valid-job}
 use Rattle.trace.specs.Units.{units}
 use Rattle.trace.proofs.Units.{units-front, units-le, units-same}
-use Rattle.promises.specs.Serving.{workOf, dueBy}
+use Rattle.promises.specs.inner.Serving.{workOf, dueBy}
 use Rattle.promises.proofs.Sums.{work-by-key, work-le, work-none}
 
 -- the jobs of one task that are released at a or later and due by t

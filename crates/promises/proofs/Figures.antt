@@ -11,7 +11,8 @@ use Rattle.judge.specs.Margin.{marginOn, tightInstant, tightAt, tried}
 use Rattle.judge.specs.Search.{smallest}
 use Rattle.judge.specs.Verdict.{verdictOn, accepts, firstShort, isShort}
 use Rattle.run.specs.Job.{deadline, taskOf}
-use Rattle.run.specs.Run.{waits, goesBefore, headFirst, next, serve, slot, leftAt, MissAt}
+use Rattle.run.specs.Order.{waits, leastFirst, headFirst, nextBy}
+use Rattle.run.specs.Run.{serve, slotBy, leftBy, MissAt}
 use Rattle.trace.specs.Legal.{Legal, counted}
 use Rattle.trace.specs.Units.{units}
 use Rattle.promises.specs.Figures.{Hold, figures, eleven, jobs, trace}
@@ -31,10 +32,10 @@ unfolding counted units
 not-at-three l = omega (arith, l 1 (record { slot = 3; inside = lit< tt; from = lit≤ tt; until = lit< tt }))
 
 miss : MissAt eleven jobs trace 7
-unfolding waits goesBefore headFirst next serve slot leftAt deadline taskOf
+unfolding waits leastFirst headFirst nextBy serve slotBy leftBy deadline taskOf
 miss = record { place = 0; inside = lit< tt; due = refl; late = lit< tt }
 
 pub figures-hold : Hold figures
-unfolding supply wholePeriods demand jobsBy commonPeriod commonMultiple commonDivisor euclid verdictOn accepts firstShort isShort smallest marginOn tightInstant tightAt tried waits goesBefore headFirst next serve slot leftAt deadline taskOf
+unfolding supply wholePeriods demand jobsBy commonPeriod commonMultiple commonDivisor euclid verdictOn accepts firstShort isShort smallest marginOn tightInstant tightAt tried waits leastFirst headFirst nextBy serve slotBy leftBy deadline taskOf
 figures-hold =
     (refl, (refl, (refl, (refl, (refl, (refl, (refl, (refl, ((refl, refl, refl), ((refl, refl), ((refl, refl), ((legal, not-at-start, not-at-three), ((miss, refl), tt)))))))))))))

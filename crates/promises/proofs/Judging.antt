@@ -33,9 +33,10 @@ use Rattle.judge.specs.declared.answer.Verdict.the-variants as Variant
 use Rattle.judge.specs.declared.answer.Verdict.{Verdict}
 use Rattle.judge.specs.Capacity.{capacityAnswer, capacityOf}
 use Rattle.judge.specs.Judged.{judgedAt, verdictAnswer}
-use Rattle.judge.specs.Margin.{MarginSays, Step, marginAnswer, marginOf, marginOn, marginedAt}
+use Rattle.judge.specs.Margin.{Step, marginAnswer, marginOf, marginOn, marginedAt}
 use Rattle.judge.specs.Signed.{isNegative}
 use Rattle.judge.specs.Verdict.{Judgement, accepts, firstShort, verdictOn}
+use Rattle.judge.specs.inner.MarginSays.{MarginSays}
 use Rattle.judge.proofs.MarginRight.{margin-later, margin-negative, margin-right, no-tasks-no-margin, one-margin, tasks-have-margin}
 use Rattle.judge.proofs.VerdictLaws.{one-verdict, short-within, verdict-right}
 use Rattle.judge.proofs.Whole.{answer-given, answer-refused, in-range-at, stated-fits}

@@ -18,15 +18,15 @@ use Rattle.budget.specs.Demand.{demand}
 use Rattle.budget.specs.Supply.{supply}
 use Rattle.budget.proofs.Valid.{both, and-true, valid-at}
 use Rattle.budget.proofs.DemandLaws.{demand-zero}
-use Rattle.run.specs.Job.{Job, deadline, taskOf, legalArrival}
-use Rattle.run.specs.Run.{MissAt, leftAt, noJob}
+use Rattle.run.specs.Job.{Job, deadline, taskOf, legalArrival, noJob, ready}
+use Rattle.run.specs.Run.{MissAt, earliestDeadline, leftBy}
 use Rattle.run.proofs.Arrival.{arrival-at}
 use Rattle.run.proofs.RunLaws.{left-falls-by}
 use Rattle.trace.specs.Legal.{zerosAndOnes}
 use Rattle.trace.specs.Units.{units}
-use Rattle.promises.specs.Serving.{asked, dueBy, earliestDeadline, leftBy, unitOf, waitingAt, workOf}
+use Rattle.promises.specs.inner.Serving.{asked, dueBy, unitOf, waitingAt, workOf}
 use Rattle.promises.proofs.DemandBound.{work-within-demand}
-use Rattle.promises.proofs.EarliestDeadline.{earliest-first, left-at-by}
+use Rattle.promises.proofs.EarliestDeadline.{earliest-first}
 use Rattle.promises.proofs.Serving.{flow}
 use Rattle.promises.proofs.Sums.{left-at, left-found, work-below-or-from, work-by-key, work-le, work-none}
 use Rattle.promises.proofs.Window.{window, arrived}
@@ -36,32 +36,32 @@ fits-or-none : (ks : List Task) → validTasks ks ≡ true → (i : Interface) (
 fits-or-none ks valid i t fits n h (yes l) = fits n l h
 fits-or-none ks valid i t fits n h (no l) = let e : n ≡ 0 = omega arith in rw e (omega (arith, demand-zero ks valid))
 
--- the work asked in a window is at most that of the urgent jobs released in it or later
-pub asked-from : (urgent : Job → Bool) (js : List Job) (a n : ℕ) → units (asked urgent js) a n ≤ workOf (λ j. leb a (j .release) && urgent j) js
+-- the work asked in a window is at most that of the urgent jobs ready in it or later
+pub asked-from : (urgent : Job → Bool) (js : List Job) (a n : ℕ) → units (asked urgent js) a n ≤ workOf (λ j. leb a (ready j) && urgent j) js
 unfolding asked
 asked-from urgent js a n =
-    let sum = work-by-key (λ j. j .release) urgent js a n in
-    let parts = work-below-or-from (λ j. j .release) urgent js a in
-    let fewer = work-le (λ j. ltb (j .release) (a + n) && urgent j) urgent js (λ q l h. both (ltb ((getD js q noJob) .release) (a + n)) _ h .1) in
+    let sum = work-by-key ready urgent js a n in
+    let parts = work-below-or-from ready urgent js a in
+    let fewer = work-le (λ j. ltb (ready j) (a + n) && urgent j) urgent js (λ q l h. both (ltb (ready (getD js q noJob)) (a + n)) _ h .1) in
     omega arith
 
--- and by t it is all the urgent work, where every urgent job is released before t
-pub asked-all : (urgent : Job → Bool) (js : List Job) (t : ℕ) → ((q : ℕ) → q < length js → urgent (getD js q noJob) ≡ true → (getD js q noJob) .release < t)
+-- and by t it is all the urgent work, where every urgent job is ready before t
+pub asked-all : (urgent : Job → Bool) (js : List Job) (t : ℕ) → ((q : ℕ) → q < length js → urgent (getD js q noJob) ≡ true → ready (getD js q noJob) < t)
     → workOf urgent js ≤ units (asked urgent js) 0 t
 unfolding asked
 asked-all urgent js t before =
-    let sum = work-by-key (λ j. j .release) urgent js 0 t in
-    let none = work-none (λ j. ltb (j .release) 0 && urgent j) js
-    (λ q l h. not-suc-le-zero (ltb-true ((getD js q noJob) .release) 0 (both (ltb ((getD js q noJob) .release) 0) _ h .0))) in
-    let all = work-le urgent (λ j. ltb (j .release) (0 + t) && urgent j) js
-    (λ q l h. and-true (lt-ltb ((getD js q noJob) .release) (0 + t) (rw zero-add (before q l h))) h) in
+    let sum = work-by-key ready urgent js 0 t in
+    let none = work-none (λ j. ltb (ready j) 0 && urgent j) js
+    (λ q l h. not-suc-le-zero (ltb-true (ready (getD js q noJob)) 0 (both (ltb (ready (getD js q noJob)) 0) _ h .0))) in
+    let all = work-le urgent (λ j. ltb (ready j) (0 + t) && urgent j) js
+    (λ q l h. and-true (lt-ltb (ready (getD js q noJob)) (0 + t) (rw zero-add (before q l h))) h) in
     omega arith
 
 module _ (ks : List Task) (valid : validTasks ks ≡ true) (js : List Job) (arrival : legalArrival ks js ≡ true) where
-  -- a job is released before its deadline
-  pub released-before : (q : ℕ) → q < length js → (getD js q noJob) .release < deadline ks (getD js q noJob)
+  -- a job is ready before its deadline
+  pub ready-before : (q : ℕ) → q < length js → ready (getD js q noJob) < deadline ks (getD js q noJob)
   unfolding deadline taskOf
-  released-before q l =
+  ready-before q l =
       let v = valid-at ks valid _ (arrival-at ks js arrival q l .numbered) in
       omega (arith, v .works, v .fits)
 
@@ -87,11 +87,10 @@ module _ (ks : List Task) (valid : validTasks ks ≡ true) (js : List Job) (arri
     late-waits t m =
         let left = leftBy (earliestDeadline ks js) js s t in
         let due = m .due in
-        let before = released-before (m .place) (m .inside) in
-        let late : 0 < getD left (m .place) 0 = rw left-at-by at (m .late) in
+        let before = ready-before (m .place) (m .inside) in
         let j = getD js (m .place) noJob in
-        let passes = and-true (lt-ltb (j .release) t (omega arith)) (le-leb (deadline ks j) t (omega arith)) in
-        le-trans late (left-at (λ j. ltb (j .release) t && leb (deadline ks j) t) js left (m .place) (m .inside) passes)
+        let passes = and-true (lt-ltb (ready j) t (omega arith)) (le-leb (deadline ks j) t (omega arith)) in
+        le-trans (m .late) (left-at (λ j. ltb (ready j) t && leb (deadline ks j) t) js left (m .place) (m .inside) passes)
 
     pub no-miss : (i : Interface) (t : ℕ) → ((u : ℕ) → 1 ≤ u → u ≤ t → demand ks u ≤ supply i u)
         → ((a n : ℕ) → a + n ≤ t → supply i n ≤ units (unitOf s) a n) → MissAt ks js s t → ⊥
@@ -102,17 +101,17 @@ module _ (ks : List Task) (valid : validTasks ks ≡ true) (js : List Job) (arri
     unfolding waitingAt dueBy
     late-by t h =
         let left = leftBy (earliestDeadline ks js) js s in
-        let f = left-found (λ j. ltb (j .release) t && leb (deadline ks j) t) js (left t) h in
+        let f = left-found (λ j. ltb (ready j) t && leb (deadline ks j) t) js (left t) h in
         let j = getD js (f .place) noJob in
         let u = deadline ks j in
-        let due : u ≤ t = leb-true _ _ (both (ltb (j .release) t) _ (f .passes) .1) in
+        let due : u ≤ t = leb-true _ _ (both (ltb (ready j) t) _ (f .passes) .1) in
         let d = le-dest due in
-        let still : 0 < getD (leftAt ks js s (u + d .0)) (f .place) 0 = rw (d .1, left-at-by) (f .some) in
-        (u, due, record { place = f .place; inside = f .inside; due = refl; late = le-trans still (left-falls-by ks js s u (d .0) (f .place)) })
+        let still : 0 < getD (left (u + d .0)) (f .place) 0 = rw (d .1) (f .some) in
+        (u, due, record { place = f .place; inside = f .inside; due = refl; late = le-trans still (left-falls-by (earliestDeadline ks js) js s u (d .0) (f .place)) })
 
     -- fewer units than the work due by t leave some of it
     pub too-few : (t : ℕ) → units (unitOf s) 0 t < workOf (dueBy ks t) js → 0 < waitingAt (dueBy ks t) (earliestDeadline ks js) js s t
     unfolding dueBy
     too-few t h =
-        let all = asked-all (dueBy ks t) js t (λ q l e. le-trans (released-before q l) (leb-true _ _ e)) in
+        let all = asked-all (dueBy ks t) js t (λ q l e. le-trans (ready-before q l) (leb-true _ _ e)) in
         omega (arith, arrived _ _ _ (flow (earliestDeadline ks js) js s (dueBy ks t) (earliest-first ks js t) bits) t)

@@ -10,11 +10,11 @@ use borrow.Author.Tests.{lt-ltb, le-ltb, le-leb, lt-leb, eq-eqb, ne-eqb}
 use native.Mathlib.Decide.{decLt, ℕ-discrete}
 use native.Mathlib.Nat.{add-zero, zero-add, add-suc, le-dest}
 use native.Mathlib.Omega.{arith}
-use Rattle.run.specs.Job.{Job}
-use Rattle.run.specs.Run.{noJob, serve}
+use Rattle.run.specs.Job.{Job, noJob}
+use Rattle.run.specs.Run.{serve}
 use Rattle.trace.specs.Units.{units}
 use Rattle.trace.proofs.Units.{units-add}
-use Rattle.promises.specs.Serving.{workOf, leftOf}
+use Rattle.promises.specs.inner.Serving.{workOf, leftOf}
 
 -- a value counted below n + 1 is counted at n or below n
 below-suc : (k n : ℕ) (u : Bool) (w v : ℕ) → (k ≡ n → w ≡ v)

@@ -18,7 +18,7 @@ use Rattle.budget.proofs.Valid.{ValidTask, and-true, both, valid-at, valid-head
 use Rattle.run.specs.Job.{Job, apart, beforeAll, deadline, inOrder, legalArrival, taskOf, validJob}
 use Rattle.trace.specs.Units.{units}
 use Rattle.trace.proofs.Units.{units-same}
-use Rattle.promises.specs.Serving.{dueBy, workOf}
+use Rattle.promises.specs.inner.Serving.{dueBy, workOf}
 use Rattle.promises.specs.Synchronous.{releasedAt, synchronous}
 use Rattle.promises.proofs.Sums.{sum-add, sum-longer, work-append}
 

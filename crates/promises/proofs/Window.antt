@@ -6,7 +6,7 @@ use native.Mathlib.Decide.{decLe}
 use native.Mathlib.Nat.{zero-add}
 use native.Mathlib.Omega.{arith}
 use Rattle.trace.specs.Units.{units}
-use Rattle.promises.specs.Serving.{Flow, Window}
+use Rattle.promises.specs.inner.Serving.{Flow, Window}
 
 module _ (left work unit : ℕ → ℕ) (flow : Flow left work unit) where
   extend : (n : ℕ) → Window left work unit n → Dec (unit n ≤ work n + left n) → Window left work unit (suc n)

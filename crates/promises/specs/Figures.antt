@@ -1,5 +1,5 @@
--- The figures of 01 that are to be proved, in one table: a row is a figure's number and what 01 says of it, of the definitions that the
--- contracts cite. `Hold` is the one statement about the table.
+-- The figures that are proved, in one table (RULES 16): a row is a figure's number and what it says of the definitions that the contracts
+-- cite. `Hold` is the one statement about the table.
 use Prim.Native.Nat.{ℕ}
 use mathlib.Core.List.{List, [], _∷_, map}
 use mathlib.Core.Path.{_≡_}
@@ -38,7 +38,7 @@ trace = 0 ∷ 0 ∷ 0 ∷ 0 ∷ 0 ∷ 0 ∷ 1 ∷ 1 ∷ []
 abbrev pub jobs : List Job
 jobs = record { task = 0; release = 0; work = 2 } ∷ []
 
--- a row: the figure's number in 01 and what 01 says of it; `negsuc 0` is −1
+-- a row: the figure's number and what it says; `negsuc 0` is −1
 pub record Figure : Type 1 where
   pub number : ℕ
   pub says : Type 0

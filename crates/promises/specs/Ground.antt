@@ -1,4 +1,4 @@
--- What the judge stands on (01, "Numbers and components" and "Order"): the common period, demand and supply, the edits, and components that
+-- What the judge stands on (RULES 2, 3, 4, 6, 11): the common period, demand and supply, the edits, and components that
 -- count as the same.
 use Prim.Native.Nat.{ℕ, _+_, _≤_, _<_, _∣_}
 use mathlib.Core.Bool.{true}
@@ -26,7 +26,7 @@ pub record CommonMultiple (p : ℕ) (ks : List Task) (m : ℕ) : Type 0 where
   pub period : p ∣ m
   pub tasks : (n : ℕ) → n < length ks → T (getD ks n noTask) ∣ m
 
--- "L is the least common multiple of Π and all T (Π alone if there are no tasks)"
+-- l is a common multiple and divides every other
 pub record LeastCommonMultiple (p : ℕ) (ks : List Task) (l : ℕ) : Type 0 where
   pub positive : 1 ≤ l
   pub multiple : CommonMultiple p ks l
@@ -49,7 +49,7 @@ DemandNeverFalls = (ks : List Task) → validTasks ks ≡ true → (t u : ℕ) �
 abbrev pub SupplyNeverFalls : Type 0
 SupplyNeverFalls = (i : Interface) → validInterface i ≡ true → (t u : ℕ) → t ≤ u → supply i t ≤ supply i u
 
--- "the new task comes last": adding a task and then removing the last gives the component back, with zero in the places from the count on
+-- to add a task and then remove the last is to have the component back, with zeros in the places behind its tasks
 abbrev pub AddThenRemove : Type 0
 AddThenRemove =
     (c : Component) (k : Task) → length (c .table .tasks) ≡ most-tasks → addingRefusal c k ≡ refusal.none
@@ -66,6 +66,6 @@ pub record AnsweredAlike (a b : Component) : Type 0 where
   pub margin : marginAnswer a ≡ marginAnswer b
   pub capacity : capacityAnswer a ≡ capacityAnswer b
 
--- "components that differ only there count as the same"
+-- components that are the same get the same answers
 abbrev pub SameAnswers : Type 0
 SameAnswers = (a b : Component) → Same a b → AnsweredAlike a b

@@ -1,4 +1,4 @@
--- What the judge answers of a component (01, "Verdict" and "Margin"): each promise by its name, about the answers of the operations.
+-- What the judge answers of a component (RULES 7, 8): each promise by its name, about the answers of the operations.
 use Prim.Native.Nat.{ℕ, suc, _+_, _≤_}
 use mathlib.Core.Bool.{true}
 use mathlib.Core.List.{List, []}
@@ -27,8 +27,8 @@ use Rattle.judge.specs.Margin.{Step, Tightest, marginAnswer, marginAt}
 use Rattle.judge.specs.Signed.{isNegative}
 use Rattle.judge.specs.Verdict.{Accepted, Judgement, ShortAt}
 
--- "Accepted: for every t ≥ 1, demand ≤ supply. Otherwise short at the smallest t where demand exceeds supply .. That instant, if any, is at
--- most L", for a stated capacity
+-- the verdict on a stated capacity: accepted exactly if no instant is short, short at t exactly if t is the first such instant, which is at
+-- most L, and nothing else
 pub record ExactVerdict (c : Component) (u : Units) : Type 0 where
   pub accepted : (verdictAnswer c ≡ Answered u Variant.Accepted) ↔ Accepted (tasksOf (c .table)) (interfaceAt c (u .0))
   pub short : (t : Time) → (verdictAnswer c ≡ Answered u (Variant.Short t)) ↔ ShortAt (tasksOf (c .table)) (interfaceAt c (u .0)) (t .0)
@@ -42,7 +42,7 @@ VerdictExact = (c : Component) → componentRefusal c ≡ refusal.none → (u : 
 abbrev pub OneVerdict : Type 0
 OneVerdict = (ks : List Task) (i : Interface) (a b : Verdict) → Judgement ks i a → Judgement ks i b → a ≡ b
 
--- "an asked one is measured at the capacity found": the capacity that the judge answers with a verdict other than none
+-- the capacity at which the margin is measured: the one that the judge answers with a verdict other than none
 pub record MeasuredAt (c : Component) (q : Units) : Type 0 where
   pub verdict : Verdict
   pub answered : verdictAnswer c ≡ Answered q verdict
@@ -51,8 +51,7 @@ pub record MeasuredAt (c : Component) (q : Units) : Type 0 where
 abbrev pub AnsweredNone : Component → Type 0
 AnsweredNone c = verdictAnswer c ≡ Answered (record { 0 = 0 }) Variant.None
 
--- "The least supply minus demand over the step instants t from 1 to L .. with the smallest such instant", and "A component with no tasks, or
--- answered none, has no margin"
+-- the margin: that of the first tightest step instant up to L, and none exactly where there are no tasks or the answer is none
 pub record ExactMargin (c : Component) : Type 0 where
   pub least : (q : Units) → MeasuredAt c q → (m : ℤ) (t : Time)
       → (marginAnswer c ≡ Margin.Least m t)
@@ -63,7 +62,7 @@ pub record ExactMargin (c : Component) : Type 0 where
 abbrev pub MarginExact : Type 0
 MarginExact = (c : Component) → componentRefusal c ≡ refusal.none → ExactMargin c
 
--- "negative exactly when the component is short"
+-- the margin is below 0 exactly where the component is short
 abbrev pub MarginNegative : Component → Type 0
 MarginNegative c = (m : ℤ) × (t : Time) × (marginAnswer c ≡ Margin.Least m t) × (isNegative m ≡ true)
 
@@ -73,14 +72,14 @@ AnsweredShort c = (q : Units) × (t : Time) × (verdictAnswer c ≡ Answered q (
 abbrev pub NegativeExactlyShort : Type 0
 NegativeExactlyShort = (c : Component) → componentRefusal c ≡ refusal.none → MarginNegative c ↔ AnsweredShort c
 
--- "For an accepted component no later step instant has a smaller one": no step instant p + 1 at all; a − b ≤ c − d is said as a + d ≤ c + b
+-- an accepted component has no smaller margin at any step instant p + 1, past L either; a − b ≤ c − d is said as a + d ≤ c + b
 abbrev pub NoLaterSmaller : Type 0
 NoLaterSmaller =
     (c : Component) → componentRefusal c ≡ refusal.none → (q : Units) → verdictAnswer c ≡ Answered q Variant.Accepted
     → (m : ℤ) (t : Time) → marginAnswer c ≡ Margin.Least m t → (p : ℕ) → Step (tasksOf (c .table)) p
     → supply (interfaceAt c (q .0)) (t .0) + demand (tasksOf (c .table)) (suc p) ≤ supply (interfaceAt c (q .0)) (suc p) + demand (tasksOf (c .table)) (t .0)
 
--- "Component given directly: 6, 9, 10": verdict, margin and smallest capacity refuse the same components with the same number
+-- verdict, margin and smallest capacity refuse the same components with the same number (RULES 13)
 abbrev pub RefusedAlike : Type 0
 RefusedAlike =
     (c : Component) → (componentRefusal c ≡ refusal.none → ⊥)

@@ -15,8 +15,8 @@ use Rattle.budget.specs.Task.{D, noTask, validTasks, tasksOf, tableRefusal}
 use Rattle.budget.proofs.Valid.{both, valid-at}
 use Rattle.trace.specs.Answer.{longest}
 use Rattle.trace.specs.Legal.{zerosAndOnes}
-use Rattle.run.specs.Job.{taskOf, legalArrival}
-use Rattle.run.specs.Run.{noJob, leftAt}
+use Rattle.run.specs.Job.{taskOf, legalArrival, noJob}
+use Rattle.run.specs.Run.{leftAt}
 use Rattle.run.specs.Walk.{most-jobs, jobsOf, releasedBefore, validJobs, validTrace, walkRefusal, stop, walkedTo, walkAnswer, leftAfter}
 use Rattle.run.proofs.Arrival.{arrival-at}
 use Rattle.run.proofs.JobRules.{lists, task-at, tasks-length}

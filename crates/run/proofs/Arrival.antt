@@ -9,8 +9,7 @@ use native.Mathlib.Omega.{arith}
 use Rattle.budget.specs.declared.task.Task.{Task}
 use Rattle.budget.specs.Task.{T, C, noTask}
 use Rattle.budget.proofs.Valid.{both}
-use Rattle.run.specs.Job.{Job, apart, beforeAll, inOrder, legalArrival, taskOf, validJob}
-use Rattle.run.specs.Run.{noJob}
+use Rattle.run.specs.Job.{Job, apart, beforeAll, inOrder, legalArrival, taskOf, validJob, noJob}
 
 -- what a legal arrival says of each job
 pub record ValidJob (ks : List Task) (j : Job) : Type 0 where

@@ -16,8 +16,8 @@ use Rattle.budget.specs.Task.{tasksOf}
 use Rattle.budget.proofs.Valid.{both, and-true}
 use Rattle.run.specs.declared.walk.Miss.the-variants.{None, At}
 use Rattle.run.specs.FirstMiss.{Says, WalkTellsFirstMiss}
-use Rattle.run.specs.Job.{Job, deadline}
-use Rattle.run.specs.Run.{noJob, leftAt, MissAt}
+use Rattle.run.specs.Job.{Job, deadline, noJob}
+use Rattle.run.specs.Run.{leftAt, MissAt}
 use Rattle.run.proofs.Accepted.{accepted, answer-accepted, task-few}
 use Rattle.run.specs.Walk.{jobsOf, late, lateTask, missed, missOf, stopFrom, stop, walkedTo}
 

@@ -14,10 +14,9 @@ use Rattle.budget.specs.declared.task.Task.{Task}
 use Rattle.budget.specs.declared.task.Table.{Table}
 use Rattle.budget.specs.Task.{T, C, D, noTask, tasksOf}
 use Rattle.budget.proofs.Places.{places}
-use Rattle.run.specs.Columns.{Tasks, Releases, Works}
-use Rattle.run.specs.Job.{Job, taskOf, deadline, inOrder, apart, validJob, beforeAll, legalArrival}
-use Rattle.run.specs.Run.{noJob}
-use Rattle.run.specs.Scan.{follows}
+use Rattle.run.specs.inner.Columns.{Tasks, Releases, Works}
+use Rattle.run.specs.Job.{Job, taskOf, deadline, inOrder, apart, validJob, beforeAll, legalArrival, noJob}
+use Rattle.run.specs.inner.Scan.{follows}
 use Rattle.run.specs.Walk.{jobsOf, releasedBefore}
 use Rattle.run.proofs.Scans.{column, column-length, cut}
 

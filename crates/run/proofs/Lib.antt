@@ -4,6 +4,7 @@ pub mod Conservation
 pub mod Filled
 pub mod FirstMiss
 pub mod JobRules
+pub mod LeastFirst
 pub mod Next
 pub mod RunLaws
 pub mod Scans

@@ -13,10 +13,10 @@ use lib.Dec.{leb, ltb, eqb}
 use Rattle.budget.specs.declared.task.Task.{Task}
 use Rattle.budget.specs.Limits.{most-tasks}
 use Rattle.budget.proofs.Valid.{both}
-use Rattle.run.specs.Columns.{Deadlines, Tasks, Releases}
-use Rattle.run.specs.Job.{Job, deadline}
-use Rattle.run.specs.Run.{noJob, waits, goesBefore, headFirst, next}
-use Rattle.run.specs.Scan.{takesOver}
+use Rattle.run.specs.inner.Columns.{Deadlines, Tasks, Releases}
+use Rattle.run.specs.Job.{Job, deadline, noJob}
+use Rattle.run.specs.Order.{waits, goesBefore, headFirst, leastFirst, next, nextBy}
+use Rattle.run.specs.inner.Scan.{takesOver}
 use Rattle.run.specs.Walk.{late, lateTask}
 
 -- a column has as many numbers as there are jobs, and each is its job's
@@ -68,12 +68,12 @@ module _ (ks : List Task) (n : ℕ) (js : List Job) (due ts rs left : List ℕ)
   goes-before : (p : ℕ) → i + p ≡ first → first < length js
       → goesBefore ks (getD (drop i js) p noJob) (getD js k noJob)
       ≡ (ltb (getD due first 0) (getD due k 0) || (eqb (getD due first 0) (getD due k 0) && ltb (getD ts first 0) (getD ts k 0)))
-  unfolding goesBefore
+  unfolding leastFirst
   goes-before p place hf =
       let hj : k < length js = omega arith in
       rw (getD-drop i js p noJob, place, column (deadline ks) js due dues first hf, column (deadline ks) js due dues k hj, column (λ j. j .task) js ts tasks first hf, column (λ j. j .task) js ts tasks k hj)
 
-  head-first : (p : ℕ) → i + p ≡ first → headFirst ks n (getD js k noJob) (getD left k 0) (drop i js) p ≡ takesOver due ts rs left n k first
+  head-first : (p : ℕ) → i + p ≡ first → headFirst (goesBefore ks) n (getD js k noJob) (getD left k 0) (drop i js) p ≡ takesOver due ts rs left n k first
   unfolding headFirst waits takesOver
   head-first p place =
       let hj : k < length js = omega arith in
@@ -86,7 +86,7 @@ module _ (ks : List Task) (n : ℕ) (js : List Job) (due ts rs left : List ℕ)
 
   pub next-step : i + next ks n (drop i js) (drop i left) ≡ first
       → k + next ks n (drop k js) (drop k left) ≡ cond (takesOver due ts rs left n k first) k first
-  unfolding next
+  unfolding nextBy
   next-step found =
       let hj : k < length js = omega arith in
       rw (cut js k i noJob e hj, cut left k i 0 e hl, head-first (next ks n (drop i js) (drop i left)) found)
@@ -98,7 +98,7 @@ unfolding lateTask
 late-end ks t js left m h = rw (drop-of-length-le js h)
 
 pub next-end : (ks : List Task) (n : ℕ) (js : List Job) (left : List ℕ) (m : ℕ) → length js ≤ m → m + next ks n (drop m js) (drop m left) ≡ m
-unfolding next
+unfolding nextBy
 next-end ks n js left m h = rw (drop-of-length-le js h) (add-zero m)
 
 -- a job that takes over waits, so it has work left

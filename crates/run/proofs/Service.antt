@@ -11,19 +11,20 @@ use native.Mathlib.Omega.{arith}
 use Rattle.budget.specs.declared.task.Task.{Task}
 use Rattle.budget.specs.Task.{D, noTask, validTasks}
 use Rattle.budget.proofs.Valid.{valid-at}
-use Rattle.run.specs.Job.{Job, deadline, legalArrival, taskOf}
-use Rattle.run.specs.Run.{noJob}
+use Rattle.run.specs.Job.{Job, deadline, legalArrival, taskOf, noJob}
 use Rattle.run.specs.Service.{OneServed, Serves, SlotServes}
+use Rattle.run.specs.Order.{goesBefore}
+use Rattle.run.proofs.LeastFirst.{decides, not-before}
 use Rattle.run.proofs.Arrival.{apart-pair, arrival-at}
-use Rattle.run.proofs.Next.{next-first, next-found, next-most, next-waits, not-before}
+use Rattle.run.proofs.Next.{next-first, next-found, next-most, next-waits}
 
 pub slot-serves : SlotServes
 slot-serves ks n js left =
     record {
-      place = next-most ks n js left;
-      waiting = next-waits ks n js left;
-      first = next-first ks n js left;
-      idle = λ e q h k. omega (arith, next-found ks n js left q h k);
+      place = next-most (goesBefore ks) n js left;
+      waiting = next-waits (goesBefore ks) n js left;
+      first = next-first (goesBefore ks) n (decides (deadline ks)) js left;
+      idle = λ e q h k. omega (arith, next-found (goesBefore ks) n js left q h k);
     }
 
 module _ (ks : List Task) (js : List Job) (valid : validTasks ks ≡ true) (legal : legalArrival ks js ≡ true) (n : ℕ) (left : List ℕ) where
@@ -36,11 +37,11 @@ module _ (ks : List Task) (js : List Job) (valid : validTasks ks ≡ true) (lega
       let d = ap (λ (k : ℕ). D (getD ks k noTask)) same in
       omega (arith, apart-pair ks js legal p q h l same, v .works, v .fits, v .within)
 
-  not-earlier : (p q : ℕ) → Serves ks n js left p → Serves ks n js left q → p < q → Dec (q < length js) → ⊥
+  not-earlier : (p q : ℕ) → Serves (goesBefore ks) n js left p → Serves (goesBefore ks) n js left q → p < q → Dec (q < length js) → ⊥
   not-earlier p q x y h (yes l) =
-      let a = not-before ks _ _ (x .first q l (y .waiting l)) in
-      let b = not-before ks _ _ (y .first p (omega arith) (x .waiting (omega arith))) in
-      let due = le-antisymm (a .deadlines) (b .deadlines) in
+      let a = not-before (deadline ks) _ _ (x .first q l (y .waiting l)) in
+      let b = not-before (deadline ks) _ _ (y .first p (omega arith) (x .waiting (omega arith))) in
+      let due = le-antisymm (a .keys) (b .keys) in
       not-twice p q h l (le-antisymm (a .tasks (sym due)) (b .tasks due)) due
   not-earlier p q x y h (no l) =
       let g = y .place in

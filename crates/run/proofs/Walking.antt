@@ -11,12 +11,12 @@ use lib.ListN.{length, getD}
 use borrow.Author.Tests.{lt-ltb, le-ltb}
 use Rattle.budget.specs.declared.task.Task.{Task}
 use Rattle.budget.specs.Limits.{most-tasks}
-use Rattle.run.specs.Columns.{Works}
+use Rattle.run.specs.inner.Columns.{Works}
 use Rattle.run.specs.declared.walk.Miss.{Miss}
 use Rattle.run.specs.declared.walk.Walked.{Walked}
 use Rattle.run.specs.Job.{Job}
-use Rattle.run.specs.Run.{leftAt}
-use Rattle.run.specs.Scan.{Slotted}
+use Rattle.run.specs.Run.{leftAt, leftBy}
+use Rattle.run.specs.inner.Scan.{Slotted}
 use Rattle.run.specs.Walk.{lateTask, missed, missOf, stopFrom, stop, servedBefore, idleBefore, walkedTo}
 
 pub record Walking (ks : List Task) (js : List Job) (s : List ℕ) (t : ℕ) (left : List ℕ) (served idle : ℕ) : Type 0 where
@@ -27,7 +27,7 @@ pub record Walking (ks : List Task) (js : List Job) (s : List ℕ) (t : ℕ) (le
 
 module _ (ks : List Task) (js : List Job) (s : List ℕ) where
   pub begin : (left : List ℕ) → Works js left → Walking ks js s 0 left 0 0
-  unfolding leftAt servedBefore idleBefore stop
+  unfolding leftBy servedBefore idleBefore stop
   begin left e = record { leaves = sym e; serves = refl; idles = refl; stops = ap (stopFrom ks js s 0) (sym (sub-zero (length s))) }
 
   -- no job is late at t, or one is
@@ -50,7 +50,7 @@ module _ (ks : List Task) (js : List Job) (s : List ℕ) where
 
   pub step : (t : ℕ) (left after : List ℕ) (served idle a b : ℕ) → Walking ks js s t left served idle → t < length s
       → most-tasks ≤ lateTask ks t js left → Slotted ks js t (getD s t 0) left after a b → Walking ks js s (t + 1) after (served + a) (idle + b)
-  unfolding leftAt servedBefore idleBefore
+  unfolding leftBy servedBefore idleBefore
   step t left after served idle a b w h fine sl =
       let here = w .leaves in
       record {

@@ -1,4 +1,4 @@
--- "Supplied slots up to the stop equal served plus idle; total work equals served plus all work left": of what the walk answers, for
+-- Nothing is lost (RULES 9): each supplied slot is served or idle, and the work of all jobs is served or left; of what the walk answers, for
 -- every call that it takes, and behind it of every run at every instant.
 use Prim.Native.Nat.{ℕ, _+_}
 use mathlib.Core.Bool.{true}

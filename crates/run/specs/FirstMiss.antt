@@ -9,8 +9,8 @@ use Rattle.budget.specs.Refusal as refusal
 use Rattle.budget.specs.Task.{tasksOf}
 use Rattle.run.specs.declared.walk.Miss.{Miss}
 use Rattle.run.specs.declared.walk.Miss.the-variants.{None, At}
-use Rattle.run.specs.Job.{Job}
-use Rattle.run.specs.Run.{noJob, MissAt}
+use Rattle.run.specs.Job.{Job, noJob}
+use Rattle.run.specs.Run.{MissAt}
 use Rattle.run.specs.Walk.{jobsOf, stop, walkRefusal, walkAnswer}
 
 -- a job of task k misses at t, the trace reaches t, no job of a lower task misses then, and none misses earlier
@@ -21,7 +21,7 @@ pub record FirstMiss (ks : List Task) (js : List Job) (s : List ℕ) (t k : ℕ)
   pub lowest : (other : MissAt ks js s t) → k ≤ getD js (other .place) noJob .task
   pub earliest : (u : ℕ) → u < t → MissAt ks js s u → ⊥
 
--- no job misses up to the trace's end, "A deadline at the very end is judged"
+-- no job misses up to the trace's end, a deadline at that instant judged too
 abbrev pub NoMiss : List Task → List Job → List ℕ → Type 0
 NoMiss ks js s = (u : ℕ) → u ≤ length s → MissAt ks js s u → ⊥
 

@@ -1,8 +1,8 @@
-pub mod Columns
 pub mod Conservation
 pub mod FirstMiss
 pub mod Job
+pub mod Order
 pub mod Run
-pub mod Scan
 pub mod Service
 pub mod Walk
+pub mod inner

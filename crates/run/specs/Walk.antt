@@ -1,4 +1,4 @@
--- What the walk answers (01, "The run"): its refusal, where it stops, the miss there, the units served and idle, and the work left.
+-- What the walk answers (RULES 9): its refusal, where it stops, the miss there, the units served and idle, and the work left.
 use Prim.Native.Nat.{ℕ, zero, suc, _+_}
 use mathlib.Core.Bool.{Bool, true, cond, _&&_}
 use mathlib.Core.List.{List, [], _∷_}
@@ -13,11 +13,12 @@ use Rattle.run.specs.declared.walk.Miss.{Miss}
 use Rattle.run.specs.declared.walk.Miss.the-variants.{None, At}
 use Rattle.run.specs.declared.walk.Walked.{Walked}
 use Rattle.run.specs.Job.{Job, deadline, legalArrival}
-use Rattle.run.specs.Run.{next, leftAt}
+use Rattle.run.specs.Order.{next}
+use Rattle.run.specs.Run.{leftAt}
 use Rattle.trace.specs.Answer.{longest}
 use Rattle.trace.specs.Legal.{zerosAndOnes}
 
--- "at most 1,024 jobs"
+-- the most jobs that a walk takes
 abbrev pub most-jobs : ℕ
 most-jobs = 1_024
 
@@ -28,7 +29,7 @@ jobsOf (t ∷ ts) [] ws = []
 jobsOf (t ∷ ts) (r ∷ rs) [] = []
 jobsOf (t ∷ ts) (r ∷ rs) (w ∷ ws) = record { task = t; release = r; work = w } ∷ jobsOf ts rs ws
 
--- "each released before the trace ends"
+-- every release lies inside the trace
 unfoldable pub releasedBefore : ℕ → List ℕ → Bool
 releasedBefore end [] = true
 releasedBefore end (r ∷ rs) = ltb r end && releasedBefore end rs
@@ -40,11 +41,12 @@ validJobs ks ts rs ws end =
     && (eqb (length ws) (length ts)
     && (leb (length ts) most-jobs && (releasedBefore end rs && legalArrival ks (jobsOf ts rs ws))))
 
--- a trace that is taken: "at most 65,536 trace bytes", and each byte 0 or 1
+-- a trace that is taken: not too long, and of zeros and ones
 unfoldable pub validTrace : List ℕ → Bool
 validTrace s = leb (length s) longest && zerosAndOnes s
 
--- "Walk: 6, 9, 12, 13, 11; unequal job lists and too many jobs are 12"; room is the length of the work-left buffer
+-- the table is judged first (6, 9), then the jobs (12, also for unequal or too long lists), the trace (13) and the room (11) (RULES 13); room is
+-- the length of the work-left buffer
 unfoldable pub walkRefusal : Table → List ℕ → List ℕ → List ℕ → List ℕ → ℕ → ℕ
 walkRefusal table ts rs ws s room =
     cond (eqb (tableRefusal table) refusal.none)
@@ -55,11 +57,11 @@ walkRefusal table ts rs ws s room =
     refusal.jobs)
     (tableRefusal table)
 
--- "A miss at t is a job with deadline t and work left then"
+-- a job is late at t: its deadline is t, and it has work left then
 unfoldable pub late : List Task → ℕ → Job → ℕ → Bool
 late ks t j left = eqb (deadline ks j) t && ltb 0 left
 
--- "lowest task number if several": the lowest task number of the jobs late at t; 64, which numbers no task, where none is late
+-- the lowest task number of the jobs late at t; 64, which numbers no task, where none is late
 unfoldable pub lateTask : List Task → ℕ → List Job → List ℕ → ℕ
 lateTask ks t [] left = most-tasks
 lateTask ks t (j ∷ js) [] = most-tasks
@@ -78,11 +80,11 @@ stopFrom ks js s t (suc n) =
     let later = stopFrom ks js s (suc t) n in
     cond (missed ks js s t) t later
 
--- "It stops at the first miss .. or at the trace's end"
+-- where the walk stops: the first instant with a late job, or the end of the trace
 unfoldable pub stop : List Task → List Job → List ℕ → ℕ
 stop ks js s = stopFrom ks js s 0 (length s)
 
--- "the miss (instant and task) or none", by the lowest late task at instant t
+-- the miss that is answered, by the lowest late task at instant t
 unfoldable pub missOf : ℕ → ℕ → Miss
 missOf t k = cond (ltb k most-tasks) (At (record { 0 = t }) k) None
 
@@ -112,7 +114,7 @@ walkedTo ks js s t =
       idle = record { 0 = idleBefore ks js s t };
     }
 
--- what stands where the walk is refused: "Any other number in a refused answer is 0"
+-- what stands where the walk is refused: no miss, and zeros (RULES 11)
 unfoldable pub refusedWalk : ℕ → Walked
 refusedWalk n = record { refusal = n; miss = None; served = record { 0 = 0 }; idle = record { 0 = 0 } }
 
@@ -125,7 +127,7 @@ walkAnswer table ts rs ws s room =
     let walked = walkedTo ks js s (stop ks js s) in
     cond (eqb n refusal.none) walked (refusedWalk n)
 
--- the work-left buffer as the walk leaves it: "one number per job with its work left at the stop"; a refusal writes nothing
+-- the work-left buffer as the walk leaves it: the work left of each job at the stop; a refusal writes nothing
 unfoldable pub leftAfter : Table → List ℕ → List ℕ → List ℕ → List ℕ → List ℕ → List ℕ
 leftAfter table ts rs ws s left =
     let n = walkRefusal table ts rs ws s (length left) in

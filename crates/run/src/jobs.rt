@@ -1,4 +1,4 @@
-// The rules of the run for a list of jobs, given as the lists of their tasks, releases and works.
+// What makes an arrival of jobs legal (RULES 9); the jobs are given as the lists of their tasks, releases and works.
 use budget::task::Table;
 ghost use Prim.Native.Nat.{ℕ, suc, _+_, _^_, _≤_, _<_};
 ghost use mathlib.Core.Bool.{not, _&&_, _||_};
@@ -9,16 +9,15 @@ ghost use lib.ListN.{length, getD, drop};
 ghost use Rattle.budget.specs.declared.task.Task.{Task};
 ghost use Rattle.budget.specs.Limits.{most-tasks};
 ghost use Rattle.budget.specs.Task.{T, D, noTask, tasksOf};
-ghost use Rattle.run.specs.Columns.{Tasks, Releases, Works};
-ghost use Rattle.run.specs.Job.{Job, taskOf, deadline, validJob, beforeAll, legalArrival};
-ghost use Rattle.run.specs.Run.{noJob};
-ghost use Rattle.run.specs.Scan.{follows};
+ghost use Rattle.run.specs.inner.Columns.{Tasks, Releases, Works};
+ghost use Rattle.run.specs.Job.{Job, taskOf, deadline, validJob, beforeAll, legalArrival, noJob};
+ghost use Rattle.run.specs.inner.Scan.{follows};
 ghost use Rattle.run.specs.Walk.{releasedBefore, validJobs};
 
 // The most jobs that a walk takes.
 pub const MOST: usize = 1_024;
 
-// Whether releases of one task are at least its period apart. The sum may pass a u32, so it is taken in a u64.
+// Whether a later release of one task keeps its distance, the task's period. The sum may pass a u32, so it is taken in a u64.
 fn apart(period: u32, task: u32, release: u32, later_task: u32, later_release: u32) -> bool
     ensures { λ r. ⌜ r ≡ (not (eqb task «later_task») || leb (release + period) «later_release») ⌝ }
 {

@@ -6,10 +6,10 @@ ghost use mathlib.Core.Path.{_≡_};
 ghost use lib.Dec.{ltb, eqb};
 ghost use lib.ListN.{length, getD};
 ghost use Rattle.budget.specs.declared.task.Task.{Task};
-ghost use Rattle.run.specs.Columns.{Deadlines, Tasks, Releases};
+ghost use Rattle.run.specs.inner.Columns.{Deadlines, Tasks, Releases};
 ghost use Rattle.run.specs.Job.{Job};
-ghost use Rattle.run.specs.Run.{next};
-ghost use Rattle.run.specs.Scan.{Slotted, takesOver};
+ghost use Rattle.run.specs.Order.{next};
+ghost use Rattle.run.specs.inner.Scan.{Slotted, takesOver};
 ghost use Rattle.run.specs.Walk.{lateTask};
 
 // Numbers no task: the numbers of tasks are below the most that a table has.

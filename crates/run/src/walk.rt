@@ -1,4 +1,4 @@
-// The walk: a run of jobs on a trace, slot by slot, to the first miss or the trace's end.
+// The walk (RULES 9): a run of jobs on a trace, slot by slot, as far as the first miss or the end of the trace.
 use crate::jobs::MOST;
 use crate::jobs::check_jobs;
 use crate::jobs::deadlines;
@@ -18,7 +18,7 @@ ghost use mathlib.Core.List.{List};
 ghost use mathlib.Core.Path.{_≡_};
 ghost use lib.ListN.{length};
 ghost use Rattle.budget.specs.declared.task.Task.{Task};
-ghost use Rattle.run.specs.Columns.{Deadlines, Tasks, Releases, Works};
+ghost use Rattle.run.specs.inner.Columns.{Deadlines, Tasks, Releases, Works};
 ghost use Rattle.run.specs.Job.{Job};
 ghost use Rattle.run.specs.Run.{leftAt};
 ghost use Rattle.run.specs.Walk.{missOf, stop, walkedTo, walkRefusal, walkAnswer, leftAfter};

@@ -1,4 +1,4 @@
--- "For every period that the trace touches" says the same as "for every period": one that the trace does not touch counts 1 at each of its places
+-- To ask it of the periods that the trace touches is to ask it of all: one that the trace does not touch counts 1 at each of its places
 -- below Δ, and Θ ≤ Δ. So a legal trace, with everything outside it counted as supplied, is a curve.
 use Prim.Native.Nat.{ℕ, zero, suc, _+_, _-_, _*_, _≤_, _<_}
 use mathlib.Core.Path.{_≡_, ap, _∙_}
@@ -8,7 +8,7 @@ use mathlib.Core.Logic.{_↔_}
 use lib.ListN.{length, getD, List·getD-eq-default}
 use lib.Dec.{ltb, leb}
 use borrow.Author.Tests.{lt-ltb, le-ltb, leb-true}
-use native.Mathlib.Nat.{not-suc-le-zero, le-refl, le-dest, add-sub-cancel-left}
+use native.Mathlib.Nat.{le-refl, le-dest, add-sub-cancel-left}
 use native.Mathlib.Decide.{decLe}
 use native.Mathlib.Omega.{arith}
 use Rattle.budget.specs.declared.interface.Interface.{Interface}
@@ -32,12 +32,12 @@ counted-after o s x h =
     let (m, e) = le-dest h in
     ap (counted o s) (omega arith) ∙ counted-at o s (length s + m) ∙ List·getD-eq-default s 1 (omega arith)
 
--- a row of 0 and 1 counts no more than 1 at a place
-bit : (s : List ℕ) → zerosAndOnes s ≡ true → (n : ℕ) → getD s n 1 ≤ 1
+-- a row of 0 and 1 counts no more than 1 at a place, nor past its end where what is read there counts no more
+pub bit : (s : List ℕ) → zerosAndOnes s ≡ true → (d : ℕ) → d ≤ 1 → (n : ℕ) → getD s n d ≤ 1
 unfolding zerosAndOnes
-bit [] e n = le-refl 1
-bit (b ∷ s) e zero = leb-true b 1 (both (leb b 1) _ e .0)
-bit (b ∷ s) e (suc n) = bit s (both (leb b 1) _ e .1) n
+bit [] e d h n = h
+bit (b ∷ s) e d h zero = leb-true b 1 (both (leb b 1) _ e .0)
+bit (b ∷ s) e d h (suc n) = bit s (both (leb b 1) _ e .1) d h n
 
 pub counted-bit : (o : ℕ) (s : List ℕ) → zerosAndOnes s ≡ true → (x : ℕ) → counted o s x ≤ 1
 unfolding counted
@@ -45,7 +45,7 @@ counted-bit o s e x = go (ltb x o)
   where
     go : (t : Bool) → cond t 1 (getD s (x - o) 1) ≤ 1
     go true = le-refl 1
-    go false = bit s e (x - o)
+    go false = bit s e 1 (le-refl 1) (x - o)
 
 module _ (i : Interface) (v : ValidInterface i) (o : ℕ) (s : List ℕ) where
   -- a period whose places below Δ all count owes nothing more
@@ -71,7 +71,3 @@ module _ (i : Interface) (v : ValidInterface i) (o : ℕ) (s : List ℕ) where
 
   pub every-period : Legal i o s ↔ ((k : ℕ) → Θ i ≤ units (counted o s) (k * Π i) (Δ i))
   every-period = (each-period, λ h k touched. h k)
-
--- an empty trace touches no period
-pub empty-legal : (i : Interface) (o : ℕ) → Legal i o []
-empty-legal i o k touched = absurd (not-suc-le-zero (touched .inside))

@@ -1,11 +1,10 @@
--- Windows of legal traces: a part of a legal trace is legal at its own offset, since what leaves the trace is counted as supplied; and a window
--- has at least the supply of its length, since a legal trace is a curve (Curve.antt).
+-- Windows: what is cut out of a supply is legal at its own offset, since what lies outside the cut counts as supplied; and a window of a legal
+-- trace has at least the supply of its length, since a legal trace is a curve (Curve.antt).
 use Prim.Native.Nat.{ℕ, zero, suc, _+_, _-_, _*_, _/_, _%_, _≤_, _<_}
 use mathlib.Core.Path.{_≡_, refl, sym, ap, _∙_}
 use mathlib.Core.Bool.{true}
 use mathlib.Core.List.{List, [], _∷_}
-use lib.ListN.{length, getD, take, drop, length-take}
-use lib.Seq.{getD-take, getD-drop}
+use lib.ListN.{length, getD, take, drop}
 use native.Mathlib.Nat.{add-assoc, le-dest, le-trans, le-of-eq, le-of-suc-le-suc, not-suc-le-zero, div-add-mod'}
 use native.Mathlib.Decide.{decLe}
 use native.Mathlib.Omega.{arith}
@@ -48,12 +47,6 @@ module _ (i : Interface) (v : ValidInterface i) where
   module _ (o : ℕ) (s : List ℕ) (bits : zerosAndOnes s ≡ true) (legal : Legal i o s) where
     pays : (k : ℕ) → Θ i ≤ units (counted o s) (k * Π i) (Δ i)
     pays = every-period i v o s .0 legal
-
-    -- the n slots from slot a on, at the place of slot a
-    pub part-legal : (a n : ℕ) → Legal i ((o + a) % Π i) (take n (drop a s))
-    part-legal a n =
-        cut-legal (counted o s) (counted-bit o s bits) pays (o + a) (take n (drop a s))
-        (λ m l. rw (add-assoc o a m, counted-at o s (a + m), getD-take n (drop a s) m 1 (omega (arith, length-take n (drop a s))), getD-drop a s m 1))
 
     -- every window [a, b) has at least the supply of its length
     pub window-units : (a b : ℕ) → a ≤ b → b ≤ length s → supply i (b - a) ≤ units (λ n. getD s n 0) a (b - a)

@@ -1,4 +1,4 @@
--- The trace question: what it refuses, and what its answer says (01, "Refusal numbers" and "Order").
+-- The trace question: what it refuses, and what its answer says (RULES 5, 13).
 use Prim.Native.Nat.{ℕ}
 use mathlib.Core.Bool.{true, cond}
 use mathlib.Core.List.{List}
@@ -12,11 +12,11 @@ use Rattle.budget.specs.Refusal as refusal
 use Rattle.trace.specs.declared.legal.Legality.{Legality}
 use Rattle.trace.specs.Legal.{zerosAndOnes, Legal}
 
--- "trace longer than 65,536"
+-- the most slots of a trace that is taken
 abbrev pub longest : ℕ
 longest = 65_536
 
--- "Trace question: 9, 13": the interface, an offset not below Π, then the trace
+-- 9 for the interface and for an offset at or past Π, then 13 for the trace
 unfoldable pub traceRefusal : Interface → ℕ → List ℕ → ℕ
 traceRefusal i o s =
     cond (eqb (interfaceRefusal i) refusal.none)

@@ -1,4 +1,4 @@
--- Legal supply (01, "Legal supply"): a trace is a row of 0 and 1 with an offset o, o < Π. In absolute time period k is the stretch
+-- Legal supply (RULES 5): a trace is a row of 0 and 1 with an offset o, o < Π. In absolute time period k is the stretch
 -- [kΠ, kΠ + Π) and the trace is the window [o, o + length): slot i stands at the absolute place o + i, which is place (o + i) mod Π of its period.
 use Prim.Native.Nat.{ℕ, _+_, _-_, _*_, _≤_, _<_}
 use mathlib.Core.Bool.{Bool, true, cond, _&&_}
@@ -9,7 +9,7 @@ use Rattle.budget.specs.declared.interface.Interface.{Interface}
 use Rattle.budget.specs.Interface.{Π, Θ, Δ}
 use Rattle.trace.specs.Units.{units}
 
--- "a row of 0 and 1"
+-- each slot is supplied (1) or not (0)
 unfoldable pub zerosAndOnes : List ℕ → Bool
 zerosAndOnes [] = true
 zerosAndOnes (b ∷ s) = leb b 1 && zerosAndOnes s
@@ -30,7 +30,6 @@ pub record Touches (i : Interface) (o : ℕ) (s : List ℕ) (k : ℕ) : Type 0 w
   pub from : k * Π i ≤ o + slot
   pub until : o + slot < k * Π i + Π i
 
--- "for every period that the trace touches, supplied slots at places below Δ, plus places below Δ of that period lying outside the
--- trace, are at least Θ"
+-- in each period that has a slot in the trace, the first Δ places count at least Θ: supplied slots, and places that the trace does not reach
 abbrev pub Legal : Interface → ℕ → List ℕ → Type 0
 Legal i o s = (k : ℕ) → Touches i o s k → Θ i ≤ units (counted o s) (k * Π i) (Δ i)

@@ -1,4 +1,4 @@
--- "It equals the least number of supplied slots over all legal traces of t slots, and some trace has it" (01, "Supply").
+-- Supply is exactly the fewest supplied slots that a legal trace of that length has: none has fewer, and one has so many (RULES 6).
 -- The interface is any that is in range, t is any number of slots, and the traces are those at every offset below Π.
 use Prim.Native.Nat.{ℕ, _≤_, _<_}
 use mathlib.Core.Bool.{true}

@@ -3,16 +3,16 @@ use Prim.Native.Nat.{ℕ, _+_, _-_, _≤_, _<_}
 use mathlib.Core.Bool.{true}
 use mathlib.Core.List.{List}
 use mathlib.Core.Path.{_≡_, refl, sym, _∙_, ap}
-use native.Mathlib.Nat.{le-trans, le-of-eq, lt-of-lt-of-le}
+use native.Mathlib.Nat.{lt-of-lt-of-le}
 use native.Mathlib.Omega.{arith}
 use lib.ListN.{length, getD, take, drop}
 use borrow.Author.Needs.{needs}
 use Rattle.budget.specs.declared.task.Task.{Task}
 use Rattle.budget.specs.CommonPeriod.{commonMultiple, commonPeriod}
-use Rattle.budget.specs.Limits.{limit, most-tasks}
+use Rattle.budget.specs.Limits.{limit}
 use Rattle.budget.specs.Task.{T, validTasks, tasksOf, noTask}
 use Rattle.budget.proofs.CommonPeriodLaws.{common-grows, multiple-positive}
-use Rattle.budget.proofs.Places.{length-mapped, from-place, from-end, valid-from}
+use Rattle.budget.proofs.Places.{in-array, from-place, from-end, valid-from}
 use Rattle.budget.proofs.Valid.{ValidTask}
 use Rattle.budget.proofs.Within.{within-is, above-is, is-above, is-within}
 use Rattle.budget.proofs.common_period.common_length.Statement.{statement}
@@ -28,9 +28,7 @@ abbrev μ-loop : tie.MeasureT-loop
 
 -- every place of the count stands in the table
 room : (s : tie.Start Inv-loop μ-loop) → s .args .table .count ≤ length (s .args .table .tasks)
-room s =
-    let full : length (s .args .table .tasks) ≡ most-tasks = search (needs, length-mapped) in
-    le-trans (s .pre .0 .2) (le-of-eq (sym full))
+room s = search (needs, in-array)
 
 -- in a turn: the task at the place, those after it, and the multiple that the turn goes on with
 module _ (c : tie.In-loop Inv-loop μ-loop) where
@@ -60,12 +58,6 @@ loop-holds : tie.Need-loop-holds Inv-loop μ-loop
 unfolding tasksOf
 loop-holds c = (search needs, c .before .pre .0 .0, c .before .pre .0 .1, c .before .pre .1, refl)
 
-mul-task : tie.Need-mul-task Inv-loop μ-loop
-mul-task c = search needs
-
-array-copy-out-task : tie.Need-array-copy-out-task Inv-loop μ-loop
-array-copy-out-task c = search needs
-
 common-multiple-requires : tie.Need-common-multiple-requires Inv-loop μ-loop
 common-multiple-requires c κs = let i = c .before .before .loop .inv in (i .1, i .2, valid (c .before) .0 .bounded)
 
@@ -74,12 +66,6 @@ returns c =
     let w = c .before .before .before in
     let over : limit < next w = is-above (next w) (next-positive w) (sym (c .before .common-multiple .ensures) ∙ c .if1 .taken) in
     rw (whole w) (sym (above-is _ (lt-of-lt-of-le over (common-grows (next w) (rest w) (next-positive w) (valid w .1)))))
-
-add-place : tie.Need-add-place Inv-loop μ-loop
-add-place c = search needs
-
-loop-less : tie.Need-loop-less Inv-loop μ-loop
-loop-less c = search needs
 
 loop-again : tie.Need-loop-again Inv-loop μ-loop
 unfolding tasksOf
@@ -103,11 +89,11 @@ common-length-spec =
     Inv-loop
     μ-loop
     loop-holds
-    mul-task
-    array-copy-out-task
+    (λ c. search needs)
+    (λ c. search needs)
     common-multiple-requires
     returns
-    add-place
-    loop-less
+    (λ c. search needs)
+    (λ c. search needs)
     loop-again
     returns-2)

@@ -9,9 +9,6 @@ use borrow.Author.Needs.{needs}
 use Rattle.budget.proofs.common_period.common_multiple.Statement.{statement}
 use Rattle.budget.proofs.common_period.common_multiple.Tie as tie
 
-common-divisor-requires : tie.Need-common-divisor-requires
-common-divisor-requires c κs = search needs
-
 div-multiple : tie.Need-div-multiple
 div-multiple c = rw (c .common-divisor .ensures) (divisor-positive _ _ (c .before .pre .0))
 
@@ -22,15 +19,9 @@ mul-multiple : tie.Need-mul-multiple
 mul-multiple c =
     omega (arith, mul-le-mul (le-trans (div-le-self (c .before .args .a) (c .common-divisor .result)) (c .before .pre .1)) (c .before .pre .2))
 
-cast-if1 : tie.Need-cast-if1
-cast-if1 c = search needs
-
 returns : tie.Need-returns
 unfolding commonMultiple
 returns c = rw (← c .before .common-divisor .ensures) (sym (above-is _ (c .if1 .taken)))
-
-cast-result : tie.Need-cast-result
-cast-result c = search needs
 
 returns-2 : tie.Need-returns-2
 unfolding commonMultiple
@@ -40,11 +31,11 @@ pub common-multiple-spec : {M : Type 1} → statement M
 common-multiple-spec =
     tie.close
     (tie.spec
-    common-divisor-requires
+    (λ c κs. search needs)
     div-multiple
     cast-multiple
     mul-multiple
-    cast-if1
+    (λ c. search needs)
     returns
-    cast-result
+    (λ c. search needs)
     returns-2)

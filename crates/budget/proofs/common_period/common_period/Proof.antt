@@ -42,9 +42,6 @@ found k n v e h =
     let fits : commonPeriodOf k ≤ limit = is-within (commonPeriodOf k) (λ z. h (e ∙ z)) in
     rw (e, within-is (commonPeriodOf k) fits) (answered k refusal.none (not-refused k v fits))
 
-check-ranges-requires : tie.Need-check-ranges-requires
-check-ranges-requires c κs = search needs
-
 returns : tie.Need-returns
 returns c =
     let k = c .before .before .args .component in
@@ -70,4 +67,4 @@ returns-3 c = found _ _ (known (c .before .before)) (c .before .common-length .e
 
 pub common-period-spec : {M : Type 1} → statement M
 common-period-spec =
-    tie.close (tie.spec check-ranges-requires returns common-length-requires returns-2 returns-3)
+    tie.close (tie.spec (λ c κs. search needs) returns common-length-requires returns-2 returns-3)

@@ -34,19 +34,10 @@ unrefused-table : (k : Component) → tableRefusal (k .table) ≡ refusal.none �
 unfolding rangeRefusal validComponent tableRefusal interfaceRefusal
 unrefused-table k e = by-interface (ltb most-tasks (k .table .count)) (validInterface (interfaceOf k)) (validTasks (tasksOf (k .table))) e
 
-check-table-requires : tie.Need-check-table-requires
-check-table-requires c κs = search needs
-
 returns : tie.Need-returns
 returns c =
     c .before .check-table .ensures
     ∙ refused-table (c .before .before .before .args .component) (λ z. c .if1 .taken (c .before .check-table .ensures ∙ z))
-
-interface-of-requires : tie.Need-interface-of-requires
-interface-of-requires c κs = search needs
-
-check-interface-requires : tie.Need-check-interface-requires
-check-interface-requires c κs = search needs
 
 returns-2 : tie.Need-returns-2
 returns-2 c =
@@ -58,8 +49,8 @@ pub check-ranges-spec : {M : Type 1} → statement M
 check-ranges-spec =
     tie.close
     (tie.spec
-    check-table-requires
+    (λ c κs. search needs)
     returns
-    interface-of-requires
-    check-interface-requires
+    (λ c κs. search needs)
+    (λ c κs. search needs)
     returns-2)

@@ -4,9 +4,6 @@ use borrow.Author.Needs.{needs}
 use Rattle.budget.proofs.component.interface_of.Statement.{statement}
 use Rattle.budget.proofs.component.interface_of.Tie as tie
 
-enum-known-capacity : tie.Need-enum-known-capacity
-enum-known-capacity c = search needs
-
 enum-told : tie.Need-enum-told
 enum-told c = search needs
 
@@ -19,4 +16,4 @@ unfolding interfaceOf
 returns-2 c = rw (c .enum-told .given .1)
 
 pub interface-of-spec : {M : Type 1} → statement M
-interface-of-spec = tie.close (tie.spec enum-known-capacity enum-told returns returns-2)
+interface-of-spec = tie.close (tie.spec (λ c. search needs) enum-told returns returns-2)

@@ -4,12 +4,9 @@ use borrow.Author.Needs.{needs}
 use Rattle.budget.proofs.component.refused.Statement.{statement}
 use Rattle.budget.proofs.component.refused.Tie as tie
 
-no-tasks-requires : tie.Need-no-tasks-requires
-no-tasks-requires c κs = search needs
-
 returns : tie.Need-returns
 unfolding refused
 returns c = rw (c .no-tasks .ensures)
 
 pub refused-spec : {M : Type 1} → statement M
-refused-spec = tie.close (tie.spec no-tasks-requires returns)
+refused-spec = tie.close (tie.spec (λ c κs. search needs) returns)

@@ -16,15 +16,6 @@ found : (c : tie.After-check-instant) → let a = c .before .before .args in c .
 unfolding demandRefusal
 found c = c .check-instant .ensures ∙ ap (λ (n : ℕ). at-instant n (c .before .before .args .t .0)) (c .before .check-table .ensures)
 
-check-table-requires : tie.Need-check-table-requires
-check-table-requires c κs = search needs
-
-check-instant-requires : tie.Need-check-instant-requires
-check-instant-requires c κs = search needs
-
-no-amount-requires : tie.Need-no-amount-requires
-no-amount-requires c κs = search needs
-
 returns : tie.Need-returns
 unfolding demandAnswer
 returns c =
@@ -48,9 +39,9 @@ pub demand-spec : {M : Type 1} → statement M
 demand-spec =
     tie.close
     (tie.spec
-    check-table-requires
-    check-instant-requires
-    no-amount-requires
+    (λ c κs. search needs)
+    (λ c κs. search needs)
+    (λ c κs. search needs)
     returns
     units-due-requires
     returns-2)

@@ -3,16 +3,16 @@ use Prim.Native.Nat.{ℕ, _+_, _-_, _*_, _≤_}
 use mathlib.Core.Bool.{true}
 use mathlib.Core.List.{List}
 use mathlib.Core.Path.{_≡_, sym, _∙_, ap}
-use native.Mathlib.Nat.{le-trans, le-of-eq, zero-add, add-zero, add-assoc}
+use native.Mathlib.Nat.{zero-add, add-zero, add-assoc}
 use native.Mathlib.Omega.{arith}
 use lib.ListN.{length, getD, take, drop}
 use borrow.Author.Needs.{needs}
 use Rattle.budget.specs.declared.task.Task.{Task}
 use Rattle.budget.specs.Demand.{demand, jobsBy}
-use Rattle.budget.specs.Limits.{limit, most-tasks}
+use Rattle.budget.specs.Limits.{limit}
 use Rattle.budget.specs.Task.{C, validTasks, tasksOf, noTask}
 use Rattle.budget.proofs.DemandLaws.{jobs-work}
-use Rattle.budget.proofs.Places.{length-mapped, from-place, from-end, valid-from}
+use Rattle.budget.proofs.Places.{in-array, from-place, from-end, valid-from}
 use Rattle.budget.proofs.Valid.{ValidTask, task-valid}
 use Rattle.budget.proofs.demand.units_due.Statement.{statement}
 use Rattle.budget.proofs.demand.units_due.Tie as tie
@@ -27,9 +27,7 @@ abbrev μ-loop : tie.MeasureT-loop
 
 -- every place of the count stands in the table
 room : (s : tie.Start Inv-loop μ-loop) → s .args .table .count ≤ length (s .args .table .tasks)
-room s =
-    let full : length (s .args .table .tasks) ≡ most-tasks = search (needs, length-mapped) in
-    le-trans (s .pre .0) (le-of-eq (sym full))
+room s = search (needs, in-array)
 
 -- in a turn: the task at the place, those after it, and what the task asks for
 module _ (c : tie.In-loop Inv-loop μ-loop) where
@@ -62,23 +60,11 @@ loop-holds : tie.Need-loop-holds Inv-loop μ-loop
 unfolding tasksOf
 loop-holds c = (search needs, search needs, c .before .pre .1, sym (zero-add _))
 
-mul-units-of : tie.Need-mul-units-of Inv-loop μ-loop
-mul-units-of c = search needs
-
-array-copy-out-units-of : tie.Need-array-copy-out-units-of Inv-loop μ-loop
-array-copy-out-units-of c = search needs
-
 units-of-requires : tie.Need-units-of-requires Inv-loop μ-loop
 units-of-requires c κs = (task-valid _ (valid (c .before) .0), c .before .before .before .before .pre .2)
 
 add-units : tie.Need-add-units Inv-loop μ-loop
 add-units c = let w = c .before .before in omega (arith, c .units-of .ensures, asked-bound w)
-
-add-place : tie.Need-add-place Inv-loop μ-loop
-add-place c = search needs
-
-loop-less : tie.Need-loop-less Inv-loop μ-loop
-loop-less c = search needs
 
 loop-again : tie.Need-loop-again Inv-loop μ-loop
 unfolding tasksOf
@@ -99,11 +85,11 @@ units-due-spec =
     Inv-loop
     μ-loop
     loop-holds
-    mul-units-of
-    array-copy-out-units-of
+    (λ c. search needs)
+    (λ c. search needs)
     units-of-requires
     add-units
-    add-place
-    loop-less
+    (λ c. search needs)
+    (λ c. search needs)
     loop-again
     returns)

@@ -30,28 +30,13 @@ longer c =
     ∙ append-returned _ (tasksOf t) _ (stood (c .before))
     (omega (arith, length-take (t .count) (t .tasks), c .before .before .before .before .before .before .before .if1 .left))
 
-no-edit-requires : tie.Need-no-edit-requires
-no-edit-requires c κs = search needs
-
 returns : tie.Need-returns
 returns c = c .no-edit .ensures ∙ sym (adding-full _ _ (c .before .if1 .taken))
-
-check-ranges-requires : tie.Need-check-ranges-requires
-check-ranges-requires c κs = search needs
-
-no-edit-requires-2 : tie.Need-no-edit-requires-2
-no-edit-requires-2 c κs = search needs
 
 returns-2 : tie.Need-returns-2
 returns-2 c =
     c .no-edit2 .ensures
     ∙ sym (adding-ranges _ _ (c .before .before .before .if1 .left) _ (c .before .before .check-ranges .ensures) (c .before .if2 .taken))
-
-check-task-requires : tie.Need-check-task-requires
-check-task-requires c κs = search needs
-
-no-edit-requires-3 : tie.Need-no-edit-requires-3
-no-edit-requires-3 c κs = search needs
 
 returns-3 : tie.Need-returns-3
 returns-3 c =
@@ -59,18 +44,12 @@ returns-3 c =
     c .no-edit3 .ensures
     ∙ sym (adding-task _ _ (d .before .before .if1 .left) (known d) _ (c .before .before .check-task .ensures) (c .before .if3 .taken))
 
-no-tasks-requires : tie.Need-no-tasks-requires
-no-tasks-requires c κs = search needs
-
 append-part-requires : tie.Need-append-part-requires
 append-part-requires c κs =
     let l = c .before .before .before .before .before .if1 .left in (
       returned _ [] (c .no-tasks .ensures),
       (search needs, search needs, omega (arith, count-is _ [] (c .no-tasks .ensures), l)),
     )
-
-append-requires : tie.Need-append-requires
-append-requires c κs = search needs
 
 with-table-requires : tie.Need-with-table-requires
 with-table-requires c κs = returned _ _ (longer c)
@@ -87,16 +66,16 @@ pub add-task-spec : {M : Type 1} → statement M
 add-task-spec =
     tie.close
     (tie.spec
-    no-edit-requires
+    (λ c κs. search needs)
     returns
-    check-ranges-requires
-    no-edit-requires-2
+    (λ c κs. search needs)
+    (λ c κs. search needs)
     returns-2
-    check-task-requires
-    no-edit-requires-3
+    (λ c κs. search needs)
+    (λ c κs. search needs)
     returns-3
-    no-tasks-requires
+    (λ c κs. search needs)
     append-part-requires
-    append-requires
+    (λ c κs. search needs)
     with-table-requires
     returns-4)

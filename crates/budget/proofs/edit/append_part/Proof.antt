@@ -2,7 +2,6 @@
 use Prim.Native.Nat.{_+_, _-_, _≤_}
 use mathlib.Core.List.{List, [], _∷_, _++_, append-nil}
 use mathlib.Core.Path.{_≡_, refl, sym, _∙_, ap}
-use native.Mathlib.Nat.{le-trans, le-of-eq}
 use native.Mathlib.Omega.{arith}
 use lib.ListN.{length, getD, take, drop, length-append}
 use lib.Seq.{append-snoc}
@@ -10,7 +9,7 @@ use borrow.Author.Needs.{needs}
 use Rattle.budget.specs.declared.task.Task.{Task}
 use Rattle.budget.specs.Limits.{most-tasks}
 use Rattle.budget.specs.Task.{tasksOf, tableOf, noTask}
-use Rattle.budget.proofs.Places.{length-mapped, from-place, from-end}
+use Rattle.budget.proofs.Places.{in-array, from-place, from-end}
 use Rattle.budget.proofs.TableLaws.{tasks-are, returned, count-is, append-returned}
 use Rattle.budget.proofs.edit.append_part.Statement.{statement}
 use Rattle.budget.proofs.edit.append_part.Tie as tie
@@ -27,9 +26,7 @@ abbrev μ-loop : tie.MeasureT-loop
 
 -- every place up to the end stands in the source
 room : (s : tie.Start Inv-loop μ-loop) → s .args .end ≤ length (s .args .source .tasks)
-room s =
-    let full : length (s .args .source .tasks) ≡ most-tasks = search (needs, length-mapped) in
-    le-trans (s .pre .1 .0) (le-of-eq (sym full))
+room s = search (needs, in-array)
 
 -- after a turn the table is as one returned for the tasks so far and the one at the place
 module _ (c : tie.After-append Inv-loop μ-loop) where
@@ -50,21 +47,6 @@ module _ (c : tie.After-append Inv-loop μ-loop) where
 
 loop-holds : tie.Need-loop-holds Inv-loop μ-loop
 loop-holds c = (c .before .pre .1 .1, c .before .pre .0, c .before .pre .1 .2, refl)
-
-mul-task : tie.Need-mul-task Inv-loop μ-loop
-mul-task c = search needs
-
-array-copy-out-task : tie.Need-array-copy-out-task Inv-loop μ-loop
-array-copy-out-task c = search needs
-
-append-requires : tie.Need-append-requires Inv-loop μ-loop
-append-requires c κs = search needs
-
-add-place : tie.Need-add-place Inv-loop μ-loop
-add-place c = search needs
-
-loop-less : tie.Need-loop-less Inv-loop μ-loop
-loop-less c = search needs
 
 loop-again : tie.Need-loop-again Inv-loop μ-loop
 loop-again c =
@@ -93,10 +75,10 @@ append-part-spec =
     Inv-loop
     μ-loop
     loop-holds
-    mul-task
-    array-copy-out-task
-    append-requires
-    add-place
-    loop-less
+    (λ c. search needs)
+    (λ c. search needs)
+    (λ c κs. search needs)
+    (λ c. search needs)
+    (λ c. search needs)
     loop-again
     returns)

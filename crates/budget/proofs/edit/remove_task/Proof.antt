@@ -42,23 +42,11 @@ shorter c =
     let a = c .before .before .before .before .before .before .before .args in
     joined _ _ (tasksOf (a .component .table)) (a .place) (kept (c .before)) (c .append-part2 .ensures)
 
-check-ranges-requires : tie.Need-check-ranges-requires
-check-ranges-requires c κs = search needs
-
-no-edit-requires : tie.Need-no-edit-requires
-no-edit-requires c κs = search needs
-
 returns : tie.Need-returns
 returns c = c .no-edit .ensures ∙ sym (removing-ranges _ _ _ (c .before .before .check-ranges .ensures) (c .before .if1 .taken))
 
-no-edit-requires-2 : tie.Need-no-edit-requires-2
-no-edit-requires-2 c κs = search needs
-
 returns-2 : tie.Need-returns-2
 returns-2 c = c .no-edit2 .ensures ∙ sym (removing-place _ _ (known (c .before .before)) (c .before .if2 .taken))
-
-no-tasks-requires : tie.Need-no-tasks-requires
-no-tasks-requires c κs = search needs
 
 append-part-requires : tie.Need-append-part-requires
 append-part-requires c κs =
@@ -66,9 +54,6 @@ append-part-requires c κs =
       returned _ [] (c .no-tasks .ensures),
       (omega (arith, v .count, c .before .if2 .left), search needs, omega (arith, count-is _ [] (c .no-tasks .ensures), v .count, c .before .if2 .left)),
     )
-
-add-append-part : tie.Need-add-append-part
-add-append-part c = search needs
 
 append-part-requires-2 : tie.Need-append-part-requires-2
 append-part-requires-2 c κs =
@@ -93,14 +78,14 @@ pub remove-task-spec : {M : Type 1} → statement M
 remove-task-spec =
     tie.close
     (tie.spec
-    check-ranges-requires
-    no-edit-requires
+    (λ c κs. search needs)
+    (λ c κs. search needs)
     returns
-    no-edit-requires-2
+    (λ c κs. search needs)
     returns-2
-    no-tasks-requires
+    (λ c κs. search needs)
     append-part-requires
-    add-append-part
+    (λ c. search needs)
     append-part-requires-2
     with-table-requires
     returns-3)

@@ -15,15 +15,6 @@ found : (c : tie.After-check-instant) → let a = c .before .before .args in c .
 unfolding supplyRefusal
 found c = c .check-instant .ensures ∙ ap (λ (n : ℕ). at-instant n (c .before .before .args .t .0)) (c .before .check-interface .ensures)
 
-check-interface-requires : tie.Need-check-interface-requires
-check-interface-requires c κs = search needs
-
-check-instant-requires : tie.Need-check-instant-requires
-check-instant-requires c κs = search needs
-
-no-amount-requires : tie.Need-no-amount-requires
-no-amount-requires c κs = search needs
-
 returns : tie.Need-returns
 unfolding supplyAnswer
 returns c =
@@ -48,9 +39,9 @@ pub supply-spec : {M : Type 1} → statement M
 supply-spec =
     tie.close
     (tie.spec
-    check-interface-requires
-    check-instant-requires
-    no-amount-requires
+    (λ c κs. search needs)
+    (λ c κs. search needs)
+    (λ c κs. search needs)
     returns
     units-by-requires
     returns-2)

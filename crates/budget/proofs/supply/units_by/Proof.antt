@@ -38,10 +38,6 @@ bounds s = whole-within (s .args .interface) (s .args .at) (in-range s)
 sub-wait : tie.Need-sub-wait
 sub-wait c = omega (arith, in-range c)
 
-returns : tie.Need-returns
-unfolding supply
-returns c = search tests
-
 div-whole : tie.Need-div-whole
 div-whole c = omega (arith, in-range (c .before))
 
@@ -66,9 +62,6 @@ mul-result : tie.Need-mul-result
 unfolding wholePeriods
 mul-result c = omega (arith, bounds (c .before .before))
 
-sub-result : tie.Need-sub-result
-sub-result c = search needs
-
 add-result : tie.Need-add-result
 unfolding wholePeriods
 add-result c = omega (arith, bounds (c .before .before))
@@ -86,11 +79,12 @@ unfolding wholePeriods
 returns-3 c = sym (all-taken _ _ (c .before .if1 .left) (c .if2 .left))
 
 pub units-by-spec : {M : Type 1} → statement M
+unfolding supply
 units-by-spec =
     tie.close
     (tie.spec
     sub-wait
-    returns
+    (λ c. search tests)
     div-whole
     add-passed
     mul-passed
@@ -98,7 +92,7 @@ units-by-spec =
     mul-passed-2
     add-passed-2
     mul-result
-    sub-result
+    (λ c. search needs)
     add-result
     returns-2
     mul-result-2

@@ -9,18 +9,9 @@ returns : tie.Need-returns
 unfolding appended
 returns c = rw (le-ltb _ _ (c .if1 .taken))
 
-mul-tasks : tie.Need-mul-tasks
-mul-tasks c = search needs
-
-array-set-from-tasks : tie.Need-array-set-from-tasks
-array-set-from-tasks c = search needs
-
-add-t6 : tie.Need-add-t6
-add-t6 c = search needs
-
 returns-2 : tie.Need-returns-2
 unfolding appended
 returns-2 c = rw (lt-ltb _ _ (c .before .if1 .left))
 
 pub append-spec : {M : Type 1} → statement M
-append-spec = tie.close (tie.spec returns mul-tasks array-set-from-tasks add-t6 returns-2)
+append-spec = tie.close (tie.spec returns (λ c. search needs) (λ c. search needs) (λ c. search needs) returns-2)

@@ -9,12 +9,9 @@ returns : tie.Need-returns
 unfolding tableRefusal
 returns c = simp (lt-ltb _ _ (c .if1 .taken))
 
-check-tasks-requires : tie.Need-check-tasks-requires
-check-tasks-requires c κs = search needs
-
 returns-2 : tie.Need-returns-2
 unfolding tableRefusal
 returns-2 c = rw (le-ltb _ _ (c .before .if1 .left)) (c .check-tasks .ensures)
 
 pub check-table-spec : {M : Type 1} → statement M
-check-table-spec = tie.close (tie.spec returns check-tasks-requires returns-2)
+check-table-spec = tie.close (tie.spec returns (λ c κs. search needs) returns-2)

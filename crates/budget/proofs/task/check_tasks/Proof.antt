@@ -3,13 +3,11 @@ use Prim.Native.Nat.{_+_, _-_, _≤_}
 use mathlib.Core.Path.{_≡_, refl, sym, _∙_, ap}
 use mathlib.Core.Bool.{true, false, _&&_}
 use lib.ListN.{length, getD, take, drop}
-use native.Mathlib.Nat.{le-trans, le-of-eq}
 use borrow.Author.Needs.{needs}
 use Rattle.budget.specs.declared.task.Task.{Task}
-use Rattle.budget.specs.Limits.{most-tasks}
 use Rattle.budget.specs.Task.{taskRefusal, validTask, validTasks, tasksOf, noTask}
 use Rattle.budget.proofs.Answers.{passed, failed}
-use Rattle.budget.proofs.Places.{length-mapped, from-place, from-end}
+use Rattle.budget.proofs.Places.{in-array, from-place, from-end}
 use Rattle.budget.proofs.task.check_tasks.Statement.{statement}
 use Rattle.budget.proofs.task.check_tasks.Tie as tie
 
@@ -21,9 +19,7 @@ abbrev μ-loop : tie.MeasureT-loop
 
 -- every place of the count stands in the table
 room : (s : tie.Start Inv-loop μ-loop) → s .args .table .count ≤ length (s .args .table .tasks)
-room s =
-    let full : length (s .args .table .tasks) ≡ most-tasks = search (needs, length-mapped) in
-    le-trans (s .pre) (le-of-eq (sym full))
+room s = search (needs, in-array)
 
 abbrev here : tie.In-loop Inv-loop μ-loop → Task
 here c = getD (c .before .before .before .args .table .tasks) (c .before .loop .place) noTask
@@ -36,27 +32,12 @@ step c = let s = c .before .before .before in c .before .loop .inv .1 ∙ ap val
 loop-holds : tie.Need-loop-holds Inv-loop μ-loop
 loop-holds c = (search needs, refl)
 
-mul-check-task : tie.Need-mul-check-task Inv-loop μ-loop
-mul-check-task c = search needs
-
-array-copy-out-check-task : tie.Need-array-copy-out-check-task Inv-loop μ-loop
-array-copy-out-check-task c = search needs
-
-check-task-requires : tie.Need-check-task-requires Inv-loop μ-loop
-check-task-requires c κs = search needs
-
 returns : tie.Need-returns Inv-loop μ-loop
 unfolding taskRefusal
 returns c =
     let w = c .before .before .before in
     let e : validTask (here w) ≡ false = failed (validTask (here w)) (λ z. c .if1 .taken (c .before .check-task .ensures ∙ z)) in
     rw (step w, e)
-
-add-place : tie.Need-add-place Inv-loop μ-loop
-add-place c = search needs
-
-loop-less : tie.Need-loop-less Inv-loop μ-loop
-loop-less c = search needs
 
 loop-again : tie.Need-loop-again Inv-loop μ-loop
 unfolding taskRefusal tasksOf
@@ -78,11 +59,11 @@ check-tasks-spec =
     Inv-loop
     μ-loop
     loop-holds
-    mul-check-task
-    array-copy-out-check-task
-    check-task-requires
+    (λ c. search needs)
+    (λ c. search needs)
+    (λ c κs. search needs)
     returns
-    add-place
-    loop-less
+    (λ c. search needs)
+    (λ c. search needs)
     loop-again
     returns-2)

@@ -8,11 +8,11 @@ use Rattle.budget.specs.Demand.{demand}
 use Rattle.budget.specs.Limits.{limit}
 use Rattle.budget.specs.Task.{tasksOf}
 use Rattle.budget.proofs.Places.{length-mapped}
-use Rattle.judge.specs.Capacity.{Raised}
 use Rattle.judge.proofs.CapacityLaws.{Found, found-start, found-end, found-none, found-on, capacity-valid}
 use Rattle.judge.proofs.StepLaws.{Carried, Moved, carried-start, carried-steppable, carried-moved, carried-next}
 use Rattle.judge.proofs.capacity.least_capacity.Statement.{statement}
 use Rattle.judge.proofs.capacity.least_capacity.Tie as tie
+use Rattle.judge.specs.inner.Raise.{Raised}
 
 abbrev Inv-loop : tie.InvT-loop
 Inv-loop table period deadline length periods works due₀ last demand₀ at₀ capacity₀ due demand at capacity =
@@ -41,9 +41,6 @@ for-demand : (r : tie.After-raised Inv-loop μ-loop)
     → Raised (start (r .before) .args .period .0) (start (r .before) .args .deadline .0) (turn (r .before) .before .loop .capacity) (turn (r .before) .before .loop .at)
     (demand (tasksOf (start (r .before) .args .table)) (turn (r .before) .before .loop .at)) (r .raised .result)
 for-demand r = rw (← on (r .before) .known) (r .raised .ensures)
-
-columns-of-requires : tie.Need-columns-of-requires Inv-loop μ-loop
-columns-of-requires c κs = search needs
 
 loop-holds : tie.Need-loop-holds Inv-loop μ-loop
 loop-holds c =
@@ -90,7 +87,7 @@ least-capacity-spec =
     (tie.spec
     Inv-loop
     μ-loop
-    columns-of-requires
+    (λ c κs. search needs)
     loop-holds
     pass-requires
     raised-requires

@@ -45,9 +45,6 @@ loop-holds c =
     let start = c .before .before .before in
     halving-start _ _ _ (start .pre .interface) _ _ _ (in-range start) (omega (arith, c .before .if1 .left, c .before .before .units-at .ensures))
 
-sub-middle : tie.Need-sub-middle Inv-loop μ-loop
-sub-middle c = omega arith
-
 add-middle : tie.Need-add-middle Inv-loop μ-loop
 add-middle c = omega (arith, small (c .before .before .before .before .before), c .before .loop .inv .within)
 
@@ -94,7 +91,7 @@ raised-spec =
     add-low
     add-high
     loop-holds
-    sub-middle
+    (λ c. omega arith)
     add-middle
     units-at-requires-2
     add-low-2

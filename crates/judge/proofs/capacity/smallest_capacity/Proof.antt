@@ -24,9 +24,6 @@ module _ (k : Component) (e : componentRefusal k ≡ refusal.none) (q : ℕ) (is
   unfolding capacityAnswer
   none-found h = sym (answer-given (componentRefusal k) _ _ e ∙ rw (is, lt-leb q (k .deadline .0) h))
 
-common-period-requires : tie.Need-common-period-requires
-common-period-requires c κs = search needs
-
 returns : tie.Need-returns
 unfolding capacityAnswer
 returns c = sym (answer-refused _ _ _ Variant.Refused (refused _ _ (c .before .common-period .ensures)) (c .if1 .taken))
@@ -49,4 +46,4 @@ returns-3 c =
     none-found _ (refused _ _ (p .ensures) ∙ e) _ (capacity-is _ _ _ (length-is _ (p .result) (p .ensures) e) (c .before .least-capacity .ensures)) (c .if2 .left)
 
 pub smallest-capacity-spec : {M : Type 1} → statement M
-smallest-capacity-spec = tie.close (tie.spec common-period-requires returns least-capacity-requires returns-2 returns-3)
+smallest-capacity-spec = tie.close (tie.spec (λ c κs. search needs) returns least-capacity-requires returns-2 returns-3)

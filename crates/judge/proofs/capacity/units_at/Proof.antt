@@ -6,11 +6,8 @@ use Rattle.budget.proofs.Answers.{supply-given}
 use Rattle.judge.proofs.capacity.units_at.Statement.{statement}
 use Rattle.judge.proofs.capacity.units_at.Tie as tie
 
-supply-requires : tie.Need-supply-requires
-supply-requires c κs = search needs
-
 returns : tie.Need-returns
 returns c = ap (λ (a : Amount). a .units .0) (c .supply .ensures ∙ supply-given _ _ (c .before .pre .interface) (c .before .pre .bounded))
 
 pub units-at-spec : {M : Type 1} → statement M
-units-at-spec = tie.close (tie.spec supply-requires returns)
+units-at-spec = tie.close (tie.spec (λ c κs. search needs) returns)

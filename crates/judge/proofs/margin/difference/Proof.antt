@@ -31,12 +31,6 @@ small a b h g = pick (ltb a b)
 fits : (a b : ℕ) → a < 2 ^ 31 → b < 2 ^ 31 → SFits w32 (toZ w32 a -ℤ toZ w32 b)
 fits a b h g = subst (λ (z : ℤ). SFits w32 z) (sym (signed a b h g)) (small a b h g)
 
-cast-result : tie.Need-cast-result
-cast-result c = search needs
-
-cast-result-2 : tie.Need-cast-result-2
-cast-result-2 c = search needs
-
 sub-result : tie.Need-sub-result
 sub-result c = fits (c .args .units) (c .args .demand) (omega arith) (omega arith)
 
@@ -47,4 +41,4 @@ returns c =
     toZ-ofZ w32 _ (fits _ _ a b) ∙ signed _ _ a b
 
 pub difference-spec : {M : Type 1} → statement M
-difference-spec = tie.close (tie.spec cast-result cast-result-2 sub-result returns)
+difference-spec = tie.close (tie.spec (λ c. search needs) (λ c. search needs) sub-result returns)

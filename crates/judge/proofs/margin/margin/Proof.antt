@@ -15,7 +15,7 @@ use Rattle.budget.specs.Task.{tasksOf}
 use Rattle.judge.specs.declared.answer.Margined.{Margined}
 use Rattle.judge.specs.declared.answer.Margined.the-variants as Variant
 use Rattle.judge.specs.Margin.{marginOn, marginedAt, marginAnswer}
-use Rattle.judge.specs.Verdict.{Scannable}
+use Rattle.judge.specs.inner.Scan.{Scannable}
 use Rattle.judge.proofs.Whole.{refused, length-is, scannable, stated-fits, answer-refused, answer-given}
 use Rattle.judge.proofs.margin.margin.Statement.{statement}
 use Rattle.judge.proofs.margin.margin.Tie as tie
@@ -37,18 +37,12 @@ stated : (k : Component) (u : Units) (i : Interface) (n : ℕ) (r : Margined) �
 unfolding marginedAt
 stated k u i n r e whole f = rw (← e, ← whole) f
 
-common-period-requires : tie.Need-common-period-requires
-common-period-requires c κs = search needs
-
 returns : tie.Need-returns
 unfolding marginAnswer
 returns c = sym (answer-refused _ _ _ Variant.Refused (refused _ _ (c .before .common-period .ensures)) (c .if1 .taken))
 
 enum-told : tie.Need-enum-told
 enum-told c = search needs
-
-interface-of-requires : tie.Need-interface-of-requires
-interface-of-requires c κs = search needs
 
 measured-requires : tie.Need-measured-requires
 measured-requires c κs =
@@ -57,9 +51,6 @@ measured-requires c κs =
     let told = c .before .enum-told .given in
     scanned _ _ _ _ (at-stated _ _ _ (told .1) (c .interface-of .ensures))
     (scannable _ (p .result) (p .ensures) e _ (stated-fits _ (refused _ _ (p .ensures) ∙ e) _ (told .1)))
-
-enum-told-2 : tie.Need-enum-told-2
-enum-told-2 c = search needs
 
 measured-asked-requires : tie.Need-measured-asked-requires
 measured-asked-requires c κs =
@@ -84,12 +75,12 @@ pub margin-spec : {M : Type 1} → statement M
 margin-spec =
     tie.close
     (tie.spec
-    common-period-requires
+    (λ c κs. search needs)
     returns
     enum-told
-    interface-of-requires
+    (λ c κs. search needs)
     measured-requires
-    enum-told-2
+    (λ c. search needs)
     measured-asked-requires
     returns-2
     returns-3)

@@ -31,9 +31,6 @@ module _ (ks : List Task) (i : Interface) (n : ℕ) (best : Tight) (is : best �
       ap₂ (λ (x : ℤ) (t : ℕ). Variant.Least x (record { 0 = t })) (f ∙ ap (λ (x : Tight). subℕ (x .units) (x .demand)) is) instant
       ∙ sym (simp (ne-eqb (tightInstant ks i n) 0 (λ q. e (instant ∙ q))))
 
-tightest-requires : tie.Need-tightest-requires
-tightest-requires c κs = search needs
-
 returns : tie.Need-returns
 returns c = nothing _ _ _ _ (c .before .tightest .ensures) (c .if1 .taken)
 
@@ -44,4 +41,4 @@ returns-2 : tie.Need-returns-2
 returns-2 c = least _ _ _ _ (c .before .before .tightest .ensures) (c .before .if1 .left) _ (toZ-ofZ w32 _ (search needs) ∙ c .difference .ensures)
 
 pub measured-spec : {M : Type 1} → statement M
-measured-spec = tie.close (tie.spec tightest-requires returns difference-requires returns-2)
+measured-spec = tie.close (tie.spec (λ c κs. search needs) returns difference-requires returns-2)

@@ -24,9 +24,6 @@ module _ (k : Component) (q : ℕ) (is : capacityOf k ≡ q) where
   unfolding marginedAt
   some-found h n whole r e = rw (is, le-leb q (k .deadline .0) h, ← whole) e
 
-least-capacity-requires : tie.Need-least-capacity-requires
-least-capacity-requires c κs = search needs
-
 returns : tie.Need-returns
 returns c = none-found _ _ (capacity-is _ _ _ (c .before .before .before .before .before .pre .1) (c .before .least-capacity .ensures)) (c .if1 .taken)
 
@@ -42,4 +39,4 @@ returns-2 c =
     some-found _ _ (capacity-is _ _ _ (pre .1) (f .least-capacity .ensures)) (c .before .if1 .left) _ (pre .1) _ (c .measured .ensures)
 
 pub measured-asked-spec : {M : Type 1} → statement M
-measured-asked-spec = tie.close (tie.spec least-capacity-requires returns measured-requires returns-2)
+measured-asked-spec = tie.close (tie.spec (λ c κs. search needs) returns measured-requires returns-2)

@@ -38,9 +38,6 @@ on : (a : tie.After-pass Inv-loop μ-loop)
     → Moved (tasksOf (start a .args .table)) (a .pass .last .1 .1 .0) (turn a .before .loop .at) (a .pass .result .demand) (a .pass .result .next)
 on a = carried-moved _ (start a .pre .few) (start a .pre .tasks) _ _ _ _ _ (in-limit a) (turn a .before .loop .inv .0) _ _ _ (a .pass .ensures)
 
-columns-of-requires : tie.Need-columns-of-requires Inv-loop μ-loop
-columns-of-requires c κs = search needs
-
 loop-holds : tie.Need-loop-holds Inv-loop μ-loop
 loop-holds c =
     let s = c .before .before .before .before in
@@ -88,7 +85,7 @@ tightest-spec =
     (tie.spec
     Inv-loop
     μ-loop
-    columns-of-requires
+    (λ c κs. search needs)
     loop-holds
     pass-requires
     try-instant-requires

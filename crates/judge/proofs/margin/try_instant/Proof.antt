@@ -36,9 +36,6 @@ module _ (best : Tight) (i : Interface) (at before asked units : ℕ) (is : unit
 returns : tie.Need-returns
 returns c = no-step _ _ _ _ _ _ refl (c .if1 .taken)
 
-supply-requires : tie.Need-supply-requires
-supply-requires c κs = search needs
-
 given : (c : tie.After-supply) → c .supply .result .units .0 ≡ supply (c .before .before .args .interface) (c .before .before .args .at)
 given c = ap (λ (a : Amount). a .units .0) (c .supply .ensures ∙ supply-given _ _ (c .before .before .pre .interface) (c .before .before .pre .bounded))
 
@@ -51,9 +48,6 @@ add-if3 c =
     let start = s .before .before in
     omega (arith, given s, supply-le-time _ (valid-interface _ (start .pre .interface)) (start .args .at), start .pre)
 
-add-if3-2 : tie.Need-add-if3-2
-add-if3-2 c = search needs
-
 returns-3 : tie.Need-returns-3
 returns-3 c =
     let s = c .before .before .before .before .before in
@@ -65,4 +59,4 @@ returns-4 c =
     not-tighter _ _ _ _ _ _ (given s) (s .before .if1 .left) (c .before .before .before .if2 .left) (c .if3 .left)
 
 pub try-instant-spec : {M : Type 1} → statement M
-try-instant-spec = tie.close (tie.spec returns supply-requires returns-2 add-if3 add-if3-2 returns-3 returns-4)
+try-instant-spec = tie.close (tie.spec returns (λ c κs. search needs) returns-2 add-if3 (λ c. search needs) returns-3 returns-4)

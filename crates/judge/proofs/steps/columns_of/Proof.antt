@@ -6,7 +6,7 @@ use native.Mathlib.Omega.{arith}
 use borrow.Author.Needs.{needs}
 use Rattle.budget.specs.declared.task.Task.{Task}
 use Rattle.budget.specs.Task.{T, C, D}
-use Rattle.judge.specs.Steps.{Column}
+use Rattle.judge.specs.inner.Steps.{Column}
 use Rattle.judge.proofs.StepLoops.{column-none, column-more}
 use Rattle.judge.proofs.steps.columns_of.Statement.{statement}
 use Rattle.judge.proofs.steps.columns_of.Tie as tie
@@ -23,36 +23,6 @@ whole {of} {ks} {n} {xs} e = subst (λ (m : ℕ). Column of ks m xs) e
 
 loop-holds : tie.Need-loop-holds Inv-loop μ-loop
 loop-holds c = (search needs, column-none _ _ _ refl, column-none _ _ _ refl, column-none _ _ _ refl)
-
-mul-task : tie.Need-mul-task Inv-loop μ-loop
-mul-task c = omega arith
-
-array-copy-out-task : tie.Need-array-copy-out-task Inv-loop μ-loop
-array-copy-out-task c = search needs
-
-mul-period : tie.Need-mul-period Inv-loop μ-loop
-mul-period c = omega arith
-
-array-write-period : tie.Need-array-write-period Inv-loop μ-loop
-array-write-period c = omega arith
-
-mul-work : tie.Need-mul-work Inv-loop μ-loop
-mul-work c = omega arith
-
-array-write-work : tie.Need-array-write-work Inv-loop μ-loop
-array-write-work c = omega arith
-
-mul-due : tie.Need-mul-due Inv-loop μ-loop
-mul-due c = omega arith
-
-array-write-due : tie.Need-array-write-due Inv-loop μ-loop
-array-write-due c = omega arith
-
-add-i : tie.Need-add-i Inv-loop μ-loop
-add-i c = omega arith
-
-loop-less : tie.Need-loop-less Inv-loop μ-loop
-loop-less c = omega arith
 
 loop-again : tie.Need-loop-again Inv-loop μ-loop
 loop-again c =
@@ -73,15 +43,15 @@ columns-of-spec =
     Inv-loop
     μ-loop
     loop-holds
-    mul-task
-    array-copy-out-task
-    mul-period
-    array-write-period
-    mul-work
-    array-write-work
-    mul-due
-    array-write-due
-    add-i
-    loop-less
+    (λ c. omega arith)
+    (λ c. search needs)
+    (λ c. omega arith)
+    (λ c. omega arith)
+    (λ c. omega arith)
+    (λ c. omega arith)
+    (λ c. omega arith)
+    (λ c. omega arith)
+    (λ c. omega arith)
+    (λ c. omega arith)
     loop-again
     returns)

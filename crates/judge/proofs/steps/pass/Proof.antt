@@ -5,7 +5,7 @@ use mathlib.Core.Logic.{⊎-elim}
 use native.Mathlib.Omega.{arith}
 use borrow.Author.Needs.{needs}
 use Rattle.budget.specs.Limits.{limit}
-use Rattle.judge.specs.Steps.{Passed}
+use Rattle.judge.specs.inner.Steps.{Passed}
 use Rattle.judge.proofs.StepLoops.{passed-none, passed-due, passed-later}
 use Rattle.judge.proofs.steps.pass.Statement.{statement}
 use Rattle.judge.proofs.steps.pass.Tie as tie
@@ -20,48 +20,15 @@ abbrev μ-loop : tie.MeasureT-loop
 loop-holds : tie.Need-loop-holds Inv-loop μ-loop
 loop-holds c = (search needs, omega arith, passed-none _ _ _ _ _)
 
-mul-deadline : tie.Need-mul-deadline Inv-loop μ-loop
-mul-deadline c = omega arith
-
-element-copy-out-deadline : tie.Need-element-copy-out-deadline Inv-loop μ-loop
-element-copy-out-deadline c = omega arith
-
-mul-deadline-2 : tie.Need-mul-deadline-2 Inv-loop μ-loop
-mul-deadline-2 c = omega arith
-
-element-copy-out-deadline-2 : tie.Need-element-copy-out-deadline-2 Inv-loop μ-loop
-element-copy-out-deadline-2 c = omega arith
-
 add-deadline : tie.Need-add-deadline Inv-loop μ-loop
 add-deadline c =
     let a = c .before .before .before .before in
     omega (arith, a .before .pre .periods-fit (a .loop .i) (c .before .before .before .loop-test .taken), a .before .pre)
 
-mul-due : tie.Need-mul-due Inv-loop μ-loop
-mul-due c = omega arith
-
-element-write-due : tie.Need-element-write-due Inv-loop μ-loop
-element-write-due c = omega arith
-
-mul-sum : tie.Need-mul-sum Inv-loop μ-loop
-mul-sum c = omega arith
-
-element-copy-out-sum : tie.Need-element-copy-out-sum Inv-loop μ-loop
-element-copy-out-sum c = omega arith
-
 add-sum : tie.Need-add-sum Inv-loop μ-loop
 add-sum c =
     let a = c .before .before .before .before .before in
     omega (arith, a .before .pre .works-fit (a .loop .i) (c .before .before .before .before .loop-test .taken), a .before .pre, a .loop .inv)
-
-earlier-requires : tie.Need-earlier-requires Inv-loop μ-loop
-earlier-requires c κs = search needs
-
-add-i : tie.Need-add-i Inv-loop μ-loop
-add-i c = omega arith
-
-loop-less : tie.Need-loop-less Inv-loop μ-loop
-loop-less c = omega arith
 
 loop-again : tie.Need-loop-again Inv-loop μ-loop
 loop-again c =
@@ -92,18 +59,18 @@ pass-spec =
     Inv-loop
     μ-loop
     loop-holds
-    mul-deadline
-    element-copy-out-deadline
-    mul-deadline-2
-    element-copy-out-deadline-2
+    (λ c. omega arith)
+    (λ c. omega arith)
+    (λ c. omega arith)
+    (λ c. omega arith)
     add-deadline
-    mul-due
-    element-write-due
-    mul-sum
-    element-copy-out-sum
+    (λ c. omega arith)
+    (λ c. omega arith)
+    (λ c. omega arith)
+    (λ c. omega arith)
     add-sum
-    earlier-requires
-    add-i
-    loop-less
+    (λ c κs. search needs)
+    (λ c. omega arith)
+    (λ c. omega arith)
     loop-again
     returns)

@@ -23,9 +23,6 @@ Inv-instants table interface length period work due₀ demand₀ at₀ due deman
 abbrev μ-instants : tie.MeasureT-instants
 μ-instants table interface length period work due₀ demand₀ at₀ due demand at = length + 1 - at
 
-columns-of-requires : tie.Need-columns-of-requires Inv-instants μ-instants
-columns-of-requires c κs = search needs
-
 -- where the turn and the function began
 abbrev turn : tie.After-supply Inv-instants μ-instants → tie.Else1 Inv-instants μ-instants
 turn s = s .before .before .before .before .before
@@ -52,17 +49,11 @@ instants-holds c =
       fits-start _ _,
     )
 
-add-found : tie.Need-add-found Inv-instants μ-instants
-add-found c = omega arith
-
 pass-requires : tie.Need-pass-requires Inv-instants μ-instants
 pass-requires c κs =
     let e = c .before .before .before in
     let pre = e .before .before .before .before .before .before .pre in
     carried-steppable _ (pre .few) (pre .tasks) _ _ _ _ _ (omega (arith, e .if1, pre)) (e .before .instants .inv .0)
-
-supply-requires : tie.Need-supply-requires Inv-instants μ-instants
-supply-requires c κs = search needs
 
 instants-less : tie.Need-instants-less Inv-instants μ-instants
 instants-less c = omega (arith, turn (c .before) .if1 .left, on (c .before) .later)
@@ -93,11 +84,11 @@ first-short-spec =
     (tie.spec
     Inv-instants
     μ-instants
-    columns-of-requires
+    (λ c κs. search needs)
     instants-holds
-    add-found
+    (λ c. omega arith)
     pass-requires
-    supply-requires
+    (λ c κs. search needs)
     instants-less
     instants-again
     returns

@@ -22,9 +22,6 @@ module _ (k : Component) (q : ℕ) (is : capacityOf k ≡ q) where
   unfolding judgedAt
   none-found h = rw (is, lt-leb q (k .deadline .0) h)
 
-least-capacity-requires : tie.Need-least-capacity-requires
-least-capacity-requires c κs = search needs
-
 returns : tie.Need-returns
 returns c = some-found _ _ (capacity-is _ _ _ (c .before .before .before .before .pre .1) (c .before .least-capacity .ensures)) (c .if1 .taken)
 
@@ -32,4 +29,4 @@ returns-2 : tie.Need-returns-2
 returns-2 c = none-found _ _ (capacity-is _ _ _ (c .before .before .before .before .pre .1) (c .before .least-capacity .ensures)) (c .if1 .left)
 
 pub on-asked-spec : {M : Type 1} → statement M
-on-asked-spec = tie.close (tie.spec least-capacity-requires returns returns-2)
+on-asked-spec = tie.close (tie.spec (λ c κs. search needs) returns returns-2)

@@ -24,9 +24,6 @@ module _ (k : Component) (u : Units) (n found : ℕ) (whole : n ≡ commonPeriod
   unfolding judgedAt verdictOn accepts
   short h = rw (← whole, ← is, le-ltb n found h)
 
-first-short-requires : tie.Need-first-short-requires
-first-short-requires c κs = search needs
-
 returns : tie.Need-returns
 returns c = accepted _ _ _ _ (c .before .before .before .before .before .pre .1) (c .before .first-short .ensures) (c .if1 .taken)
 
@@ -34,4 +31,4 @@ returns-2 : tie.Need-returns-2
 returns-2 c = short _ _ _ _ (c .before .before .before .before .before .pre .1) (c .before .first-short .ensures) (c .if1 .left)
 
 pub on-stated-spec : {M : Type 1} → statement M
-on-stated-spec = tie.close (tie.spec first-short-requires returns returns-2)
+on-stated-spec = tie.close (tie.spec (λ c κs. search needs) returns returns-2)

@@ -18,15 +18,9 @@ answered : (k : Component) (a : Capacity) (r : Judged) → componentRefusal k �
 unfolding verdictAnswer
 answered k a r e is f = f ∙ sym (answer-given (componentRefusal k) _ _ e ∙ ap (judgedAt k) is)
 
-common-period-requires : tie.Need-common-period-requires
-common-period-requires c κs = search needs
-
 returns : tie.Need-returns
 unfolding verdictAnswer
 returns c = sym (answer-refused _ _ _ Refused (refused _ _ (c .before .common-period .ensures)) (c .if1 .taken))
-
-enum-known-capacity : tie.Need-enum-known-capacity
-enum-known-capacity c = search needs
 
 on-stated-requires : tie.Need-on-stated-requires
 on-stated-requires c κs =
@@ -57,9 +51,9 @@ pub verdict-spec : {M : Type 1} → statement M
 verdict-spec =
     tie.close
     (tie.spec
-    common-period-requires
+    (λ c κs. search needs)
     returns
-    enum-known-capacity
+    (λ c. search needs)
     on-stated-requires
     enum-told
     on-asked-requires

@@ -8,29 +8,11 @@ use borrow.Author.Needs.{needs}
 use Rattle.run.proofs.jobs.check_jobs.Statement.{statement}
 use Rattle.run.proofs.jobs.check_jobs.Tie as tie
 
-returns : tie.Need-returns
-unfolding validJobs
-returns c = search tests
-
-returns-2 : tie.Need-returns-2
-unfolding validJobs
-returns-2 c = search tests
-
-returns-3 : tie.Need-returns-3
-unfolding validJobs
-returns-3 c = search tests
-
-released-before-requires : tie.Need-released-before-requires
-released-before-requires c κs = search needs
-
 returns-4 : tie.Need-returns-4
 unfolding validJobs
 returns-4 c =
     let e = c .before .before in
     rw (eq-eqb _ _ (e .before .before .if1 .left), eq-eqb _ _ (e .before .if2 .left), le-leb _ _ (e .if3 .left), ← (c .before .released-before .ensures), not-true (c .before .released-before .result) (c .if4 .taken))
-
-legal-jobs-requires : tie.Need-legal-jobs-requires
-legal-jobs-requires c κs = search needs
 
 returns-5 : tie.Need-returns-5
 unfolding validJobs
@@ -42,13 +24,14 @@ returns-5 c =
     (c .legal-jobs .ensures _ (l .tasks) (l .releases) (l .works))
 
 pub check-jobs-spec : {M : Type 1} → statement M
+unfolding validJobs
 check-jobs-spec =
     tie.close
     (tie.spec
-    returns
-    returns-2
-    returns-3
-    released-before-requires
+    (λ c. search tests)
+    (λ c. search tests)
+    (λ c. search tests)
+    (λ c κs. search needs)
     returns-4
-    legal-jobs-requires
+    (λ c κs. search needs)
     returns-5)

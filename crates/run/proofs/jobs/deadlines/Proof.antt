@@ -1,13 +1,12 @@
 -- Each job's deadline is stored at its place. The loop's invariant: every place below i has its job's deadline.
 use Prim.Native.Nat.{ℕ, _+_, _-_, _^_, _≤_, _<_}
-use mathlib.Core.Path.{_≡_, sym}
+use mathlib.Core.Path.{_≡_}
 use lib.ListN.{length, getD}
 use denote.Ref.{now}
-use native.Mathlib.Nat.{not-suc-le-zero, le-trans, le-of-eq}
+use native.Mathlib.Nat.{not-suc-le-zero}
 use native.Mathlib.Omega.{arith}
 use borrow.Author.Needs.{needs}
-use Rattle.budget.specs.Limits.{most-tasks}
-use Rattle.budget.proofs.Places.{length-mapped}
+use Rattle.budget.proofs.Places.{in-array}
 use Rattle.budget.specs.Task.{D, noTask}
 use Rattle.run.proofs.Filled.{filled}
 use Rattle.run.proofs.JobRules.{due-column}
@@ -24,9 +23,7 @@ abbrev μ-loop : tie.MeasureT-loop
 
 -- every place of the count stands in the table
 room : (s : tie.Start Inv-loop μ-loop) → s .args .table .count ≤ length (s .args .table .tasks)
-room s =
-    let full : length (s .args .table .tasks) ≡ most-tasks = search (needs, length-mapped) in
-    le-trans (s .pre .0) (le-of-eq (sym full))
+room s = search (needs, in-array)
 
 -- the job at the loop's place: its task is there, and its deadline fits
 fine : (c : tie.In-loop Inv-loop μ-loop) →
@@ -39,12 +36,6 @@ fine c = c .before .before .before .pre .3 (c .before .loop .i) (c .loop-test .t
 loop-holds : tie.Need-loop-holds Inv-loop μ-loop
 loop-holds c = (search needs, search needs, (λ k l. absurd (not-suc-le-zero l)))
 
-mul-place : tie.Need-mul-place Inv-loop μ-loop
-mul-place c = search needs
-
-shared-slice-read-place : tie.Need-shared-slice-read-place Inv-loop μ-loop
-shared-slice-read-place c = search needs
-
 cast-place : tie.Need-cast-place Inv-loop μ-loop
 cast-place c = omega (arith, fine (c .before) .0, c .before .before .before .before .pre .0)
 
@@ -54,26 +45,8 @@ mul-task c = omega (arith, fine (c .before) .0, c .before .before .before .befor
 array-copy-out-task : tie.Need-array-copy-out-task Inv-loop μ-loop
 array-copy-out-task c = omega (arith, fine (c .before) .0, c .before .before .before .before .pre .0)
 
-mul-release : tie.Need-mul-release Inv-loop μ-loop
-mul-release c = search needs
-
-shared-slice-read-release : tie.Need-shared-slice-read-release Inv-loop μ-loop
-shared-slice-read-release c = search needs
-
 add-due : tie.Need-add-due Inv-loop μ-loop
 add-due c = omega (arith, fine (c .before .before .before .before) .1)
-
-mul-due : tie.Need-mul-due Inv-loop μ-loop
-mul-due c = search needs
-
-slice-write-due : tie.Need-slice-write-due Inv-loop μ-loop
-slice-write-due c = search needs
-
-add-i : tie.Need-add-i Inv-loop μ-loop
-add-i c = search needs
-
-loop-less : tie.Need-loop-less Inv-loop μ-loop
-loop-less c = search needs
 
 loop-again : tie.Need-loop-again Inv-loop μ-loop
 loop-again c =
@@ -84,9 +57,6 @@ loop-again c =
       filled (λ k. getD (now (a .releases)) k 0 + D (getD (a .table .tasks) (getD (now (a .tasks)) k 0) noTask)) (h .loop .due) (h .loop .i) (omega arith)
           (h .loop .inv .2),
     )
-
-same-length : tie.Need-same-length Inv-loop μ-loop
-same-length c = search needs
 
 returns : tie.Need-returns Inv-loop μ-loop
 returns c =
@@ -104,18 +74,18 @@ deadlines-spec =
     Inv-loop
     μ-loop
     loop-holds
-    mul-place
-    shared-slice-read-place
+    (λ c. search needs)
+    (λ c. search needs)
     cast-place
     mul-task
     array-copy-out-task
-    mul-release
-    shared-slice-read-release
+    (λ c. search needs)
+    (λ c. search needs)
     add-due
-    mul-due
-    slice-write-due
-    add-i
-    loop-less
+    (λ c. search needs)
+    (λ c. search needs)
+    (λ c. search needs)
+    (λ c. search needs)
     loop-again
-    same-length
+    (λ c. search needs)
     returns)

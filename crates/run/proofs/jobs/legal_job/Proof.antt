@@ -6,15 +6,12 @@ use mathlib.Core.Path.{_≡_, sym, ap}
 use lib.Dec.{leb, ltb}
 use lib.ListN.{length, getD}
 use denote.Ref.{now}
-use native.Mathlib.Nat.{le-trans, le-of-eq}
 use native.Mathlib.Omega.{arith}
 use borrow.Author.Tests.{lt-ltb, le-ltb, le-leb, lt-leb}
-use Rattle.budget.specs.Limits.{most-tasks}
 use Rattle.budget.specs.Task.{T, C, noTask, tasksOf}
-use Rattle.budget.proofs.Places.{length-mapped}
-use Rattle.run.specs.Columns.{Tasks, Works}
-use Rattle.run.specs.Job.{Job, validJob}
-use Rattle.run.specs.Run.{noJob}
+use Rattle.budget.proofs.Places.{in-array}
+use Rattle.run.specs.inner.Columns.{Tasks, Works}
+use Rattle.run.specs.Job.{Job, validJob, noJob}
 use Rattle.run.proofs.JobRules.{valid-at, task-at}
 use Rattle.run.proofs.Scans.{column-length}
 use borrow.Author.Needs.{needs}
@@ -23,9 +20,7 @@ use Rattle.run.proofs.jobs.legal_job.Tie as tie
 
 -- every place of the count stands in the table
 room : (s : tie.Start) → s .args .table .count ≤ length (s .args .table .tasks)
-room s =
-    let full : length (s .args .table .tasks) ≡ most-tasks = search (needs, length-mapped) in
-    le-trans (s .pre .0) (le-of-eq (sym full))
+room s = search (needs, in-array)
 
 -- the job's own rules, as the code tests them
 valid : (s : tie.Start) (js : List Job) → Tasks js (now (s .args .tasks)) → Works js (now (s .args .works))
@@ -36,18 +31,6 @@ valid : (s : tie.Start) (js : List Job) → Tasks js (now (s .args .tasks)) → 
 valid s js tasks works =
     let a = s .args in
     valid-at (a .table) (room s) js (now (a .tasks)) tasks (a .i) (omega (arith, column-length _ js _ tasks, s .pre)) (now (a .works)) works
-
-mul-work : tie.Need-mul-work
-mul-work c = search needs
-
-shared-slice-read-work : tie.Need-shared-slice-read-work
-shared-slice-read-work c = search needs
-
-mul-place : tie.Need-mul-place
-mul-place c = search needs
-
-shared-slice-read-place : tie.Need-shared-slice-read-place
-shared-slice-read-place c = search needs
 
 cast-place : tie.Need-cast-place
 cast-place c = omega (arith, c .shared-slice-known5 .given (c .before .before .before .before .before .args .i))
@@ -62,21 +45,12 @@ returns-2 c =
     let s = c .before .before .before .before .before .before .before in
     λ js tasks releases works. sym (rw (valid s js tasks works, lt-ltb _ _ (c .before .if1 .left), lt-leb _ _ (c .if2 .taken)))
 
-mul-task : tie.Need-mul-task
-mul-task c = search needs
-
-array-copy-out-task : tie.Need-array-copy-out-task
-array-copy-out-task c = search needs
-
 returns-3 : tie.Need-returns-3
 returns-3 c =
     let e = c .before .before .before in
     let s = e .before .before .before .before .before .before .before in
     λ js tasks releases works.
     sym (rw (valid s js tasks works, lt-ltb _ _ (e .before .if1 .left), le-leb _ _ (e .if2 .left), lt-leb _ _ (c .if3 .taken)))
-
-spaced-requires : tie.Need-spaced-requires
-spaced-requires c κs = search needs
 
 returns-4 : tie.Need-returns-4
 returns-4 c =
@@ -93,15 +67,15 @@ pub legal-job-spec : {M : Type 1} → statement M
 legal-job-spec =
     tie.close
     (tie.spec
-    mul-work
-    shared-slice-read-work
-    mul-place
-    shared-slice-read-place
+    (λ c. search needs)
+    (λ c. search needs)
+    (λ c. search needs)
+    (λ c. search needs)
     cast-place
     returns
     returns-2
-    mul-task
-    array-copy-out-task
+    (λ c. search needs)
+    (λ c. search needs)
     returns-3
-    spaced-requires
+    (λ c κs. search needs)
     returns-4)

@@ -7,7 +7,7 @@ use borrow.Author.Needs.{needs}
 use borrow.Author.Tests.{not-true, not-false}
 use native.Mathlib.Omega.{arith}
 use Rattle.budget.specs.Task.{tasksOf}
-use Rattle.run.specs.Columns.{Tasks, Releases, Works}
+use Rattle.run.specs.inner.Columns.{Tasks, Releases, Works}
 use Rattle.run.specs.Job.{Job, legalArrival}
 use Rattle.run.proofs.JobRules.{legal-from, legal-end}
 use Rattle.run.proofs.Scans.{column-length}
@@ -25,9 +25,6 @@ abbrev μ-loop : tie.MeasureT-loop
 loop-holds : tie.Need-loop-holds Inv-loop μ-loop
 loop-holds c = (search needs, (λ js tasks releases works. refl))
 
-legal-job-requires : tie.Need-legal-job-requires Inv-loop μ-loop
-legal-job-requires c κs = search needs
-
 returns : tie.Need-returns Inv-loop μ-loop
 returns c =
     let h = c .before .before .before in
@@ -37,12 +34,6 @@ returns c =
     (h .loop .inv .1 js tasks releases works
     ∙ legal-from (tasksOf (a .table)) js (h .loop .i) (omega (arith, column-length _ js _ tasks))
     ∙ rw (← (c .before .legal-job .ensures js tasks releases works), not-true (c .before .legal-job .result) (c .if1 .taken)))
-
-add-i : tie.Need-add-i Inv-loop μ-loop
-add-i c = search needs
-
-loop-less : tie.Need-loop-less Inv-loop μ-loop
-loop-less c = search needs
 
 loop-again : tie.Need-loop-again Inv-loop μ-loop
 loop-again c =
@@ -68,9 +59,9 @@ legal-jobs-spec =
     Inv-loop
     μ-loop
     loop-holds
-    legal-job-requires
+    (λ c κs. search needs)
     returns
-    add-i
-    loop-less
+    (λ c. search needs)
+    (λ c. search needs)
     loop-again
     returns-2)

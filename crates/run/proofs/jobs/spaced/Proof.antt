@@ -10,9 +10,8 @@ use native.Mathlib.Numerals.{add-one}
 use native.Mathlib.Omega.{arith}
 use Rattle.budget.specs.declared.task.Task.{Task}
 use Rattle.budget.specs.Task.{T}
-use Rattle.run.specs.Columns.{Tasks, Releases}
-use Rattle.run.specs.Job.{Job, taskOf, beforeAll}
-use Rattle.run.specs.Run.{noJob}
+use Rattle.run.specs.inner.Columns.{Tasks, Releases}
+use Rattle.run.specs.Job.{Job, taskOf, beforeAll, noJob}
 use Rattle.run.proofs.JobRules.{before-from, before-end}
 use Rattle.run.proofs.Scans.{column-length}
 use Rattle.run.proofs.jobs.spaced.Statement.{statement}
@@ -27,40 +26,10 @@ Inv-loop period tasks releases i task release k₀ k = (suc i ≤ k)
 abbrev μ-loop : tie.MeasureT-loop
 μ-loop period tasks releases i task release k₀ k = length tasks - k
 
-mul-task : tie.Need-mul-task Inv-loop μ-loop
-mul-task c = search needs
-
-shared-slice-read-task : tie.Need-shared-slice-read-task Inv-loop μ-loop
-shared-slice-read-task c = search needs
-
-mul-release : tie.Need-mul-release Inv-loop μ-loop
-mul-release c = search needs
-
-shared-slice-read-release : tie.Need-shared-slice-read-release Inv-loop μ-loop
-shared-slice-read-release c = search needs
-
-add-k : tie.Need-add-k Inv-loop μ-loop
-add-k c = search needs
-
 loop-holds : tie.Need-loop-holds Inv-loop μ-loop
 loop-holds c =
     let i = c .before .before .before .before .args .i in
     (search needs, search needs, (λ ks js tasks releases e. rw (add-one i)))
-
-mul-follows : tie.Need-mul-follows Inv-loop μ-loop
-mul-follows c = search needs
-
-shared-slice-read-follows : tie.Need-shared-slice-read-follows Inv-loop μ-loop
-shared-slice-read-follows c = search needs
-
-mul-follows-2 : tie.Need-mul-follows-2 Inv-loop μ-loop
-mul-follows-2 c = search needs
-
-shared-slice-read-follows-2 : tie.Need-shared-slice-read-follows-2 Inv-loop μ-loop
-shared-slice-read-follows-2 c = search needs
-
-follows-requires : tie.Need-follows-requires Inv-loop μ-loop
-follows-requires c κs = search needs
 
 returns : tie.Need-returns Inv-loop μ-loop
 returns c =
@@ -72,12 +41,6 @@ returns c =
     (h .loop .inv .2 ks js tasks releases e
     ∙ before-from ks js (now (a .tasks)) (now (a .releases)) tasks releases (a .i) (h .loop .k) (omega arith) (omega arith)
     ∙ rw (e, ← (c .before .follows .ensures), not-true (c .before .follows .result) (c .if1 .taken)))
-
-add-k-2 : tie.Need-add-k-2 Inv-loop μ-loop
-add-k-2 c = search needs
-
-loop-less : tie.Need-loop-less Inv-loop μ-loop
-loop-less c = search needs
 
 loop-again : tie.Need-loop-again Inv-loop μ-loop
 loop-again c =
@@ -103,19 +66,19 @@ spaced-spec =
     (tie.spec
     Inv-loop
     μ-loop
-    mul-task
-    shared-slice-read-task
-    mul-release
-    shared-slice-read-release
-    add-k
+    (λ c. search needs)
+    (λ c. search needs)
+    (λ c. search needs)
+    (λ c. search needs)
+    (λ c. search needs)
     loop-holds
-    mul-follows
-    shared-slice-read-follows
-    mul-follows-2
-    shared-slice-read-follows-2
-    follows-requires
+    (λ c. search needs)
+    (λ c. search needs)
+    (λ c. search needs)
+    (λ c. search needs)
+    (λ c κs. search needs)
     returns
-    add-k-2
-    loop-less
+    (λ c. search needs)
+    (λ c. search needs)
     loop-again
     returns-2)

@@ -22,32 +22,11 @@ abbrev μ-loop : tie.MeasureT-loop
 loop-holds : tie.Need-loop-holds Inv-loop μ-loop
 loop-holds c = (search needs, search needs, (λ k l. absurd (not-suc-le-zero l)))
 
-mul-left : tie.Need-mul-left Inv-loop μ-loop
-mul-left c = search needs
-
-shared-slice-read-left : tie.Need-shared-slice-read-left Inv-loop μ-loop
-shared-slice-read-left c = search needs
-
-mul-left-2 : tie.Need-mul-left-2 Inv-loop μ-loop
-mul-left-2 c = search needs
-
-slice-write-left : tie.Need-slice-write-left Inv-loop μ-loop
-slice-write-left c = search needs
-
-add-i : tie.Need-add-i Inv-loop μ-loop
-add-i c = search needs
-
-loop-less : tie.Need-loop-less Inv-loop μ-loop
-loop-less c = search needs
-
 loop-again : tie.Need-loop-again Inv-loop μ-loop
 loop-again c =
     let h = c .before .before in
     let works = now (h .before .args .works) in
     (search needs, search needs, filled (λ k. getD works k 0) (h .loop .left) (h .loop .i) (omega arith) (h .loop .inv .2))
-
-same-length : tie.Need-same-length Inv-loop μ-loop
-same-length c = search needs
 
 returns : tie.Need-returns Inv-loop μ-loop
 returns c =
@@ -61,12 +40,12 @@ whole-work-spec =
     Inv-loop
     μ-loop
     loop-holds
-    mul-left
-    shared-slice-read-left
-    mul-left-2
-    slice-write-left
-    add-i
-    loop-less
+    (λ c. search needs)
+    (λ c. search needs)
+    (λ c. search needs)
+    (λ c. search needs)
+    (λ c. search needs)
+    (λ c. search needs)
     loop-again
-    same-length
+    (λ c. search needs)
     returns)

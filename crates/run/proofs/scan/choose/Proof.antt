@@ -9,9 +9,9 @@ use borrow.Author.Needs.{needs}
 use native.Mathlib.Nat.{zero-add}
 use native.Mathlib.Omega.{arith}
 use Rattle.budget.specs.declared.task.Task.{Task}
-use Rattle.run.specs.Columns.{Deadlines, Tasks, Releases}
+use Rattle.run.specs.inner.Columns.{Deadlines, Tasks, Releases}
 use Rattle.run.specs.Job.{Job}
-use Rattle.run.specs.Run.{next}
+use Rattle.run.specs.Order.{next}
 use Rattle.run.proofs.Scans.{next-end, next-step, taken-waits, column-length}
 use Rattle.run.proofs.scan.choose.Statement.{statement}
 use Rattle.run.proofs.scan.choose.Tie as tie
@@ -32,15 +32,6 @@ loop-holds c =
       (λ h. omega arith),
       (λ ks js dues tasks releases. next-end ks (a .n) js (now (a .left)) (length (now (a .left))) (omega (arith, column-length _ js _ dues))),
     )
-
-sub-i : tie.Need-sub-i Inv-loop μ-loop
-sub-i c = search needs
-
-first-of-requires : tie.Need-first-of-requires Inv-loop μ-loop
-first-of-requires c κs = search needs
-
-loop-less : tie.Need-loop-less Inv-loop μ-loop
-loop-less c = search needs
 
 loop-again : tie.Need-loop-again Inv-loop μ-loop
 loop-again c =
@@ -66,4 +57,4 @@ returns c =
 pub choose-spec : {M : Type 1} → statement M
 choose-spec =
     tie.close
-    (tie.spec Inv-loop μ-loop loop-holds sub-i first-of-requires loop-less loop-again returns)
+    (tie.spec Inv-loop μ-loop loop-holds (λ c. search needs) (λ c κs. search needs) (λ c. search needs) loop-again returns)

@@ -7,7 +7,7 @@ use lib.ListN.{length, drop}
 use borrow.Author.Needs.{needs}
 use native.Mathlib.Omega.{arith}
 use Rattle.budget.specs.declared.task.Task.{Task}
-use Rattle.run.specs.Columns.{Deadlines, Tasks}
+use Rattle.run.specs.inner.Columns.{Deadlines, Tasks}
 use Rattle.run.specs.Job.{Job}
 use Rattle.run.specs.Walk.{lateTask}
 use Rattle.run.proofs.Scans.{late-end, late-step, column-length}
@@ -27,33 +27,6 @@ loop-holds c =
       search needs,
       λ ks js dues tasks. late-end ks (a .t) js (now (a .left)) (length (now (a .left))) (omega (arith, column-length _ js _ dues)),
     )
-
-sub-i : tie.Need-sub-i Inv-loop μ-loop
-sub-i c = search needs
-
-mul-lower-late : tie.Need-mul-lower-late Inv-loop μ-loop
-mul-lower-late c = search needs
-
-shared-slice-read-lower-late : tie.Need-shared-slice-read-lower-late Inv-loop μ-loop
-shared-slice-read-lower-late c = search needs
-
-mul-lower-late-2 : tie.Need-mul-lower-late-2 Inv-loop μ-loop
-mul-lower-late-2 c = search needs
-
-shared-slice-read-lower-late-2 : tie.Need-shared-slice-read-lower-late-2 Inv-loop μ-loop
-shared-slice-read-lower-late-2 c = search needs
-
-mul-lower-late-3 : tie.Need-mul-lower-late-3 Inv-loop μ-loop
-mul-lower-late-3 c = search needs
-
-shared-slice-read-lower-late-3 : tie.Need-shared-slice-read-lower-late-3 Inv-loop μ-loop
-shared-slice-read-lower-late-3 c = search needs
-
-lower-late-requires : tie.Need-lower-late-requires Inv-loop μ-loop
-lower-late-requires c κs = search needs
-
-loop-less : tie.Need-loop-less Inv-loop μ-loop
-loop-less c = search needs
 
 loop-again : tie.Need-loop-again Inv-loop μ-loop
 loop-again c =
@@ -79,14 +52,14 @@ late-task-spec =
     Inv-loop
     μ-loop
     loop-holds
-    sub-i
-    mul-lower-late
-    shared-slice-read-lower-late
-    mul-lower-late-2
-    shared-slice-read-lower-late-2
-    mul-lower-late-3
-    shared-slice-read-lower-late-3
-    lower-late-requires
-    loop-less
+    (λ c. search needs)
+    (λ c. search needs)
+    (λ c. search needs)
+    (λ c. search needs)
+    (λ c. search needs)
+    (λ c. search needs)
+    (λ c. search needs)
+    (λ c κs. search needs)
+    (λ c. search needs)
     loop-again
     returns)

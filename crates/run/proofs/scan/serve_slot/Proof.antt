@@ -12,12 +12,6 @@ returns c =
     let a = c .before .before .before .before .before .args in
     (λ ks js dues tasks releases. not-supplied ks js (a .n) (a .byte) (now (a .left)) (c .if1 .taken), search needs)
 
-choose-requires : tie.Need-choose-requires
-choose-requires c κs = search needs
-
-same-length : tie.Need-same-length
-same-length c = search needs
-
 returns-2 : tie.Need-returns-2
 returns-2 c =
     let s = c .before .before .before .before .before .before .before .before in
@@ -28,23 +22,8 @@ returns-2 c =
       search needs,
     )
 
-mul-left : tie.Need-mul-left
-mul-left c = search needs
-
-slice-read-left : tie.Need-slice-read-left
-slice-read-left c = search needs
-
 sub-left : tie.Need-sub-left
 sub-left c = c .before .before .choose .ensures .1 (c .before .if2 .left)
-
-mul-left-2 : tie.Need-mul-left-2
-mul-left-2 c = search needs
-
-slice-write-left : tie.Need-slice-write-left
-slice-write-left c = search needs
-
-same-length-2 : tie.Need-same-length-2
-same-length-2 c = search needs
 
 returns-3 : tie.Need-returns-3
 returns-3 c =
@@ -61,13 +40,13 @@ serve-slot-spec =
     tie.close
     (tie.spec
     returns
-    choose-requires
-    same-length
+    (λ c κs. search needs)
+    (λ c. search needs)
     returns-2
-    mul-left
-    slice-read-left
+    (λ c. search needs)
+    (λ c. search needs)
     sub-left
-    mul-left-2
-    slice-write-left
-    same-length-2
+    (λ c. search needs)
+    (λ c. search needs)
+    (λ c. search needs)
     returns-3)

@@ -46,9 +46,6 @@ past-trace c =
     past-jobs (c .before .before .before) true
     (rw (le-leb _ _ (c .before .before .if3 .left), ← (c .before .zeros-and-ones .ensures), not-false (c .before .zeros-and-ones .result) (c .if4 .left)))
 
-check-table-requires : tie.Need-check-table-requires
-check-table-requires c κs = search needs
-
 returns : tie.Need-returns
 unfolding walkRefusal
 returns c = rw (← (c .before .check-table .ensures), ne-eqb (c .before .check-table .result) 0 (c .if1 .taken))
@@ -65,9 +62,6 @@ returns-2 c =
 returns-3 : tie.Need-returns-3
 unfolding validTrace
 returns-3 c = sym (past-jobs (c .before) false (rw (lt-leb _ _ (c .if3 .taken))))
-
-zeros-and-ones-requires : tie.Need-zeros-and-ones-requires
-zeros-and-ones-requires c κs = search needs
 
 returns-4 : tie.Need-returns-4
 unfolding validTrace
@@ -86,12 +80,12 @@ pub check-walk-spec : {M : Type 1} → statement M
 check-walk-spec =
     tie.close
     (tie.spec
-    check-table-requires
+    (λ c κs. search needs)
     returns
     check-jobs-requires
     returns-2
     returns-3
-    zeros-and-ones-requires
+    (λ c κs. search needs)
     returns-4
     returns-5
     returns-6)

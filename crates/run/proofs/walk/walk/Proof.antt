@@ -5,9 +5,6 @@ use borrow.Author.Needs.{needs}
 use Rattle.run.proofs.walk.walk.Statement.{statement}
 use Rattle.run.proofs.walk.walk.Tie as tie
 
-check-walk-requires : tie.Need-check-walk-requires
-check-walk-requires c κs = search needs
-
 returns : tie.Need-returns
 unfolding walkAnswer leftAfter refusedWalk
 returns c =
@@ -15,15 +12,6 @@ returns c =
     let no = ne-eqb (c .before .check-walk .result) 0 (c .if1 .taken) in
     (rw (← is, no), rw (← is, no))
 
-walk-accepted-requires : tie.Need-walk-accepted-requires
-walk-accepted-requires c κs = search needs
-
-same-length : tie.Need-same-length
-same-length c = search needs
-
-returns-2 : tie.Need-returns-2
-returns-2 c = search needs
-
 pub walk-spec : {M : Type 1} → statement M
 walk-spec =
-    tie.close (tie.spec check-walk-requires returns walk-accepted-requires same-length returns-2)
+    tie.close (tie.spec (λ c κs. search needs) returns (λ c κs. search needs) (λ c. search needs) (λ c. search needs))

@@ -25,12 +25,6 @@ walk-jobs-requires c κs =
     let s = c .before .before .before .before .before .before .before in
     (s .pre, length-take-le _ _ (few s))
 
-same-length : tie.Need-same-length
-same-length c = search needs
-
-returns : tie.Need-returns
-returns c = search needs
-
 pub walk-accepted-spec : {M : Type 1} → statement M
 walk-accepted-spec =
     tie.close
@@ -38,5 +32,5 @@ walk-accepted-spec =
     array-borrow-prefix-due
     slice-aggregate-walk-jobs
     walk-jobs-requires
-    same-length
-    returns)
+    (λ c. search needs)
+    (λ c. search needs))

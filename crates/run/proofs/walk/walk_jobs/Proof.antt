@@ -3,10 +3,8 @@ use Prim.Native.Nat.{_≤_}
 use mathlib.Core.Path.{_≡_, sym, _∙_}
 use lib.ListN.{length}
 use denote.Ref.{now}
-use native.Mathlib.Nat.{le-trans, le-of-eq}
-use Rattle.budget.specs.Limits.{most-tasks}
 use Rattle.budget.specs.Task.{tasksOf}
-use Rattle.budget.proofs.Places.{length-mapped}
+use Rattle.budget.proofs.Places.{in-array}
 use Rattle.run.specs.Walk.{jobsOf}
 use Rattle.run.proofs.Accepted.{Accepted, accepted, job-fine, answer-accepted, left-accepted}
 use Rattle.run.proofs.JobRules.{lists}
@@ -19,9 +17,7 @@ rules : (s : tie.Start) → let a = s .args in Accepted (a .table) (now (a .task
 rules s = accepted _ _ _ _ _ _ (s .pre .0)
 
 room : (s : tie.Start) → s .args .table .count ≤ length (s .args .table .tasks)
-room s =
-    let full : length (s .args .table .tasks) ≡ most-tasks = search (needs, length-mapped) in
-    le-trans (rules s .tasks .few) (le-of-eq (sym full))
+room s = let few = rules s .tasks .few in search (needs, in-array)
 
 deadlines-requires : tie.Need-deadlines-requires
 deadlines-requires c κs =
@@ -50,12 +46,6 @@ walk-slots-requires c κs =
       rules s .short,
     )
 
-same-length : tie.Need-same-length
-same-length c = search needs
-
-same-length-2 : tie.Need-same-length-2
-same-length-2 c = search needs
-
 returns : tie.Need-returns
 returns c =
     let v = c .before .before in
@@ -78,6 +68,6 @@ walk-jobs-spec =
     deadlines-requires
     whole-work-requires
     walk-slots-requires
-    same-length
-    same-length-2
+    (λ c. search needs)
+    (λ c. search needs)
     returns)

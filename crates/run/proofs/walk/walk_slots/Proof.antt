@@ -9,7 +9,7 @@ use denote.Ref.{now}
 use borrow.Author.Needs.{needs}
 use native.Mathlib.Omega.{arith}
 use Rattle.budget.specs.declared.task.Task.{Task}
-use Rattle.run.specs.Columns.{Deadlines, Tasks, Releases, Works}
+use Rattle.run.specs.inner.Columns.{Deadlines, Tasks, Releases, Works}
 use Rattle.run.specs.Job.{Job}
 use Rattle.run.proofs.Walking.{Walking, begin, step, stopped, answers}
 use Rattle.run.proofs.walk.walk_slots.Statement.{statement}
@@ -34,30 +34,6 @@ loop-holds c =
       (λ ks js dues tasks releases works. begin ks js (now (a .trace)) (now (a .left)) works),
     )
 
-cast-instant : tie.Need-cast-instant Inv-loop μ-loop
-cast-instant c = search needs
-
-late-task-requires : tie.Need-late-task-requires Inv-loop μ-loop
-late-task-requires c κs = search needs
-
-shared-slice-read-serve-slot : tie.Need-shared-slice-read-serve-slot Inv-loop μ-loop
-shared-slice-read-serve-slot c = search needs
-
-serve-slot-requires : tie.Need-serve-slot-requires Inv-loop μ-loop
-serve-slot-requires c κs = search needs
-
-add-served : tie.Need-add-served Inv-loop μ-loop
-add-served c = search needs
-
-add-idle : tie.Need-add-idle Inv-loop μ-loop
-add-idle c = search needs
-
-add-t : tie.Need-add-t Inv-loop μ-loop
-add-t c = search needs
-
-loop-less : tie.Need-loop-less Inv-loop μ-loop
-loop-less c = search needs
-
 loop-again : tie.Need-loop-again Inv-loop μ-loop
 loop-again c =
     let v = c .before .before .before .before in
@@ -72,18 +48,6 @@ loop-again c =
           step ks js (now (a .trace)) (h .loop .t) (h .loop .left) _ (h .loop .served) (h .loop .idle) _ _ (h .loop .inv .3 ks js dues tasks releases works)
           (e .before .before .before .loop-test .taken) (omega arith) (v .serve-slot .ensures .0 ks js dues tasks releases)),
     )
-
-cast-instant-2 : tie.Need-cast-instant-2 Inv-loop μ-loop
-cast-instant-2 c = search needs
-
-late-task-requires-2 : tie.Need-late-task-requires-2 Inv-loop μ-loop
-late-task-requires-2 c κs = search needs
-
-miss-of-requires : tie.Need-miss-of-requires Inv-loop μ-loop
-miss-of-requires c κs = search needs
-
-same-length : tie.Need-same-length Inv-loop μ-loop
-same-length c = search needs
 
 returns : tie.Need-returns Inv-loop μ-loop
 returns c =
@@ -103,17 +67,17 @@ walk-slots-spec =
     Inv-loop
     μ-loop
     loop-holds
-    cast-instant
-    late-task-requires
-    shared-slice-read-serve-slot
-    serve-slot-requires
-    add-served
-    add-idle
-    add-t
-    loop-less
+    (λ c. search needs)
+    (λ c κs. search needs)
+    (λ c. search needs)
+    (λ c κs. search needs)
+    (λ c. search needs)
+    (λ c. search needs)
+    (λ c. search needs)
+    (λ c. search needs)
     loop-again
-    cast-instant-2
-    late-task-requires-2
-    miss-of-requires
-    same-length
+    (λ c. search needs)
+    (λ c κs. search needs)
+    (λ c κs. search needs)
+    (λ c. search needs)
     returns)

@@ -14,9 +14,6 @@ use Rattle.trace.specs.Legal.{zerosAndOnes}
 use Rattle.trace.proofs.legal.check_trace.Statement.{statement}
 use Rattle.trace.proofs.legal.check_trace.Tie as tie
 
-check-interface-requires : tie.Need-check-interface-requires
-check-interface-requires c κs = search needs
-
 returns : tie.Need-returns
 unfolding traceRefusal
 returns c = rw (← c .before .check-interface .ensures, ne-eqb _ _ (c .if1 .taken))
@@ -30,9 +27,6 @@ unfolding traceRefusal
 returns-3 c =
     let b = c .before .before in
     rw (← b .before .check-interface .ensures, b .if1 .left, lt-ltb _ _ (c .before .if2 .left), lt-leb _ _ (c .if3 .taken))
-
-zeros-and-ones-requires : tie.Need-zeros-and-ones-requires
-zeros-and-ones-requires c κs = search needs
 
 -- past the other tests the bytes decide
 bytes : (i : Interface) (o : ℕ) (s : List ℕ) → interfaceRefusal i ≡ refusal.none → o < Π i → length s ≤ longest → (z : Bool) → z ≡ zerosAndOnes s
@@ -54,4 +48,4 @@ returns-5 c =
 
 pub check-trace-spec : {M : Type 1} → statement M
 check-trace-spec =
-    tie.close (tie.spec check-interface-requires returns returns-2 returns-3 zeros-and-ones-requires returns-4 returns-5)
+    tie.close (tie.spec (λ c κs. search needs) returns returns-2 returns-3 (λ c κs. search needs) returns-4 returns-5)

@@ -5,9 +5,6 @@ use borrow.Author.Needs.{needs}
 use Rattle.trace.proofs.legal.is_legal.Statement.{statement}
 use Rattle.trace.proofs.legal.is_legal.Tie as tie
 
-check-trace-requires : tie.Need-check-trace-requires
-check-trace-requires c κs = search needs
-
 returns : tie.Need-returns
 returns c =
     let e = c .before .check-trace .ensures in
@@ -23,4 +20,4 @@ returns-2 c =
     record { refused = sym e; yes-exactly = (λ t. (e, w .0 t), λ h. w .1 (h .1)) }
 
 pub is-legal-spec : {M : Type 1} → statement M
-is-legal-spec = tie.close (tie.spec check-trace-requires returns walk-requires returns-2)
+is-legal-spec = tie.close (tie.spec (λ c κs. search needs) returns walk-requires returns-2)

@@ -4,14 +4,5 @@ use Rattle.budget.proofs.Tests.{tests}
 use Rattle.trace.proofs.legal.next_place.Statement.{statement}
 use Rattle.trace.proofs.legal.next_place.Tie as tie
 
-add-after : tie.Need-add-after
-add-after c = search needs
-
-returns : tie.Need-returns
-returns c = search tests
-
-returns-2 : tie.Need-returns-2
-returns-2 c = search tests
-
 pub next-place-spec : {M : Type 1} → statement M
-next-place-spec = tie.close (tie.spec add-after returns returns-2)
+next-place-spec = tie.close (tie.spec (λ c. search needs) (λ c. search tests) (λ c. search tests))

@@ -71,9 +71,6 @@ sub-slack c =
 loop-holds : tie.Need-loop-holds Inv-loop μ-loop
 loop-holds c = (zero-le, taken _ _ _ (c .before .before .pre) .below, zero-le, refl)
 
-shared-slice-read-lacking : tie.Need-shared-slice-read-lacking Inv-loop μ-loop
-shared-slice-read-lacking c = omega arith
-
 lacking-requires : tie.Need-lacking-requires Inv-loop μ-loop
 lacking-requires c κs =
     let v = taken _ _ _ (c .before .before .before .before .before .pre) .valid in
@@ -84,18 +81,6 @@ returns c =
     let l = c .before .before .before .before .loop in
     answers _ _ _ (c .before .before .before .before .before .before .before .pre) false
     (sym (stop _ _ _ _ _ _ _ _ (c .before .before .before .loop-test .taken) (c .before .lacking .ensures) (c .if1 .taken)) ∙ l .inv .3)
-
-carried-requires : tie.Need-carried-requires Inv-loop μ-loop
-carried-requires c κs = omega arith
-
-next-place-requires : tie.Need-next-place-requires Inv-loop μ-loop
-next-place-requires c κs = omega arith
-
-add-i : tie.Need-add-i Inv-loop μ-loop
-add-i c = omega arith
-
-loop-less : tie.Need-loop-less Inv-loop μ-loop
-loop-less c = omega arith
 
 loop-again : tie.Need-loop-again Inv-loop μ-loop
 loop-again c =
@@ -121,12 +106,12 @@ walk-spec =
     μ-loop
     sub-slack
     loop-holds
-    shared-slice-read-lacking
+    (λ c. omega arith)
     lacking-requires
     returns
-    carried-requires
-    next-place-requires
-    add-i
-    loop-less
+    (λ c κs. omega arith)
+    (λ c κs. omega arith)
+    (λ c. omega arith)
+    (λ c. omega arith)
     loop-again
     returns-2)

@@ -3,15 +3,12 @@ use mathlib.Core.Path.{ap}
 use Rattle.budget.specs.declared.common_period.CommonPeriod.{CommonPeriod}
 use Rattle.budget.specs.Component.{commonPeriodAnswer}
 use borrow.Author.Needs.{needs}
-use Rattle.budget.proofs.component.check_component.Statement.{statement}
-use Rattle.budget.proofs.component.check_component.Tie as tie
-
-common-period-requires : tie.Need-common-period-requires
-common-period-requires c κs = search needs
+use Rattle.budget.proofs.check.check_component.Statement.{statement}
+use Rattle.budget.proofs.check.check_component.Tie as tie
 
 returns : tie.Need-returns
 unfolding commonPeriodAnswer
 returns c = ap (λ (a : CommonPeriod). a .refusal) (c .common-period .ensures)
 
 pub check-component-spec : {M : Type 1} → statement M
-check-component-spec = tie.close (tie.spec common-period-requires returns)
+check-component-spec = tie.close (tie.spec (λ c κs. search needs) returns)

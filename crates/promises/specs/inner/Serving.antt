@@ -1,27 +1,16 @@
 -- Service by any rule, for the part of demand 3 that holds whatever the order of service: some jobs are urgent, and the rule never leaves a
 -- unit idle, nor gives it to another job, while an urgent one waits.
-use Prim.Native.Nat.{ℕ, zero, suc, _+_, _-_, _<_}
+use Prim.Native.Nat.{ℕ, suc, _+_, _-_, _<_}
 use mathlib.Core.Bool.{Bool, true, cond, _&&_}
-use mathlib.Core.List.{List, [], _∷_, map}
+use mathlib.Core.List.{List, [], _∷_}
 use mathlib.Core.Path.{_≡_}
 use lib.ListN.{length, getD}
 use lib.Dec.{leb, ltb, eqb}
 use Rattle.budget.specs.declared.task.Task.{Task}
-use Rattle.run.specs.Job.{Job, deadline}
-use Rattle.run.specs.Run.{next, noJob, serve, waits}
+use Rattle.run.specs.Job.{Job, deadline, noJob, ready}
+use Rattle.run.specs.Order.{waits}
+use Rattle.run.specs.Run.{Rule, leftBy}
 use Rattle.trace.specs.Units.{units}
-
--- a serving rule: the place of the job that the supplied slot n serves, by the work left of each job; the unit is idle where that place
--- is not below the count of jobs
-abbrev pub Rule : Type 0
-Rule = ℕ → List ℕ → ℕ
-
--- the work left of each job at instant n on the trace s, where the rule serves
-unfoldable pub leftBy : Rule → List Job → List ℕ → ℕ → List ℕ
-leftBy rule js s zero = map (λ j. j .work) js
-leftBy rule js s (suc n) =
-    let left = leftBy rule js s n in
-    cond (eqb (getD s n 0) 0) left (serve left (rule n left))
 
 pub record UrgentFirst (urgent : Job → Bool) (js : List Job) (rule : Rule) : Type 0 where
   -- a unit that is not idle goes to a job that waits
@@ -32,10 +21,6 @@ pub record UrgentFirst (urgent : Job → Bool) (js : List Job) (rule : Rule) : T
       → waits n (getD js q noJob) (getD left q 0) ≡ true → rule n left < length js
   pub first : (n : ℕ) (left : List ℕ) (q : ℕ) → q < length js → urgent (getD js q noJob) ≡ true
       → waits n (getD js q noJob) (getD left q 0) ≡ true → urgent (getD js (rule n left) noJob) ≡ true
-
--- the rule of the run: the unit goes to the waiting job with the earliest deadline
-abbrev pub earliestDeadline : List Task → List Job → Rule
-earliestDeadline ks js n left = next ks n js left
 
 -- the urgent jobs of an instant under earliest deadline first: those with a deadline at or before it
 unfoldable pub dueBy : List Task → ℕ → Job → Bool
@@ -55,12 +40,12 @@ leftOf p (j ∷ js) (w ∷ left) = cond (p j) w 0 + leftOf p js left
 abbrev pub unitOf : List ℕ → ℕ → ℕ
 unitOf s n = getD s n 0
 
--- the urgent work that arrives in slot n, and the urgent work left at instant n of jobs released before it
+-- the urgent work that becomes ready in slot n, and the urgent work left at instant n of jobs that were ready before it
 unfoldable pub asked : (Job → Bool) → List Job → ℕ → ℕ
-asked urgent js n = workOf (λ j. eqb (j .release) n && urgent j) js
+asked urgent js n = workOf (λ j. eqb (ready j) n && urgent j) js
 
 unfoldable pub waitingAt : (Job → Bool) → Rule → List Job → List ℕ → ℕ → ℕ
-waitingAt urgent rule js s n = leftOf (λ j. ltb (j .release) n && urgent j) js (leftBy rule js s n)
+waitingAt urgent rule js s n = leftOf (λ j. ltb (ready j) n && urgent j) js (leftBy rule js s n)
 
 -- work that is left at each instant, where `work` arrives and `unit` is given in each slot: none at 0, and no unit is lost while some is left
 pub record Flow (left work unit : ℕ → ℕ) : Type 0 where
