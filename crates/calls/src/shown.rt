@@ -56,7 +56,7 @@ fn put_capacity(out: &mut [u8], start: usize, capacity: Capacity) -> usize {
     }
 }
 
-// What the tables' last word is: `zero` if every task place from the count on is (0, 0, 0), else `filled`.
+// Puts `zero` if every task place from the count on is (0, 0, 0), else `filled`.
 fn put_rest(out: &mut [u8], start: usize, table: Table) -> usize {
     if rest_is_zero(table) {
         return print::put_text(out, start, b" zero");

@@ -53,30 +53,18 @@ fn answer_line(row: &[u8], start: usize, end: usize, out: &mut [u8]) -> bool {
     write_answer(&row[start..end], out)
 }
 
-// What is held after the line that ends at a place; the input is over where its answer could not be written.
-fn after_line(held: Held, end: usize, written: bool) -> Held {
-    let mut next = held.end;
-    if end < next {
-        next = end + 1;
-    }
-    Held {
-        start: next,
-        seen: next,
-        end: held.end,
-        open: written,
-    }
-}
-
 // One turn: answers the next whole line, or reads where none is held.
 fn turn(row: &mut [u8], out: &mut [u8], held: Held) -> Held {
     let held_end = held.end;
     if held_end > row.len() {
-        return after_line(held, held_end, false);
+        return lines::stopped(held_end);
     }
     let end = lines::line_end(&row[0..held_end], held.seen);
     if end < held_end {
-        let written = answer_line(row, held.start, end, out);
-        return after_line(held, end, written);
+        if answer_line(row, held.start, end, out) {
+            return lines::after_line(held, end);
+        }
+        return lines::stopped(held_end);
     }
     lines::read_more(row, held)
 }

@@ -1,5 +1,5 @@
 -- What is kept of a row of input: a byte moves or stays, and none is lost. The line end is the byte 10.
-use Prim.Native.Nat.{ℕ, _-_, _≤_, _<_}
+use Prim.Native.Nat.{ℕ, _+_, _-_, _≤_, _<_}
 use mathlib.Core.Path.{_≡_}
 use mathlib.Core.Bool.{Bool, true, false}
 use mathlib.Core.List.{List}
@@ -17,6 +17,12 @@ pub record Kept (row : List ℕ) (from end : ℕ) (after : List ℕ) (r : ℕ) :
   pub long : length after ≡ length row
   pub count : from ≤ end → end ≤ length row → r ≡ end - from
   pub kept : from ≤ end → end ≤ length row → take r after ≡ take r (drop from row)
+
+-- the line that ends at a place is taken: the next one begins behind its end, and what is held is as it was
+pub record Taken (held : Held) (place : ℕ) (r : Held) : Type 0 where
+  pub start : place < held .end → r .start ≡ place + 1
+  pub seen : place < held .end → r .seen ≡ place + 1
+  pub end : r .end ≡ held .end
 
 -- nothing more is read, and nothing held is left
 pub record Stopped (place : ℕ) (r : Held) : Type 0 where

@@ -1,7 +1,7 @@
 // Lines of standard input, as they come: a read may end anywhere, and a line is answered only once it is whole.
 use libc::STDERR_FILENO;
 use libc::STDIN_FILENO;
-ghost use Rattle.lines.specs.Lines.{Behind, Kept, LineEnd, Refilled, Stopped};
+ghost use Rattle.lines.specs.Lines.{Behind, Kept, LineEnd, Refilled, Stopped, Taken};
 
 // What is held of the input in a row: the lines that are taken end at `start`, no line ends from there to `seen`, and the row
 // holds the bytes up to `end`. Once it is not open, nothing more is read.
@@ -58,8 +58,23 @@ fn keep_rest(row: &mut [u8], from: usize, end: usize) -> usize
     count
 }
 
+// What is held once the line that ends at a place is taken.
+pub fn after_line(held: Held, end: usize) -> Held
+    ensures { λ r. ⌜ Taken held end r ⌝ }
+{
+    if end >= held.end {
+        return stopped(held.end);
+    }
+    Held {
+        start: end + 1,
+        seen: end + 1,
+        end: held.end,
+        open: held.open,
+    }
+}
+
 // Nothing more is read, and of what is held nothing is a line.
-fn stopped(end: usize) -> Held
+pub fn stopped(end: usize) -> Held
     ensures { λ r. ⌜ Stopped end r ⌝ }
 {
     Held {
