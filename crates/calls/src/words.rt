@@ -1,5 +1,4 @@
 // The words of a line and its numbers, each read from a place on.
-ghost use Prim.Native.Nat.{_≤_};
 
 // A number, and the place after it and the space that follows it.
 pub struct Number {

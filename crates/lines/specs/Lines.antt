@@ -1,7 +1,7 @@
 -- What is kept of a row of input: a byte moves or stays, and none is lost. The line end is the byte 10.
 use Prim.Native.Nat.{ℕ, _+_, _-_, _≤_, _<_}
 use mathlib.Core.Path.{_≡_}
-use mathlib.Core.Bool.{Bool, true, false}
+use mathlib.Core.Bool.{true, false}
 use mathlib.Core.List.{List}
 use lib.ListN.{length, getD, take, drop}
 use Rattle.lines.specs.declared.Held.{Held}
