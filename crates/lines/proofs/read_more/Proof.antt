@@ -1,0 +1,51 @@
+-- What moved to the front stays there when more is read behind it.
+use borrow.Author.Needs.{needs}
+use native.Mathlib.Omega.{arith}
+use mathlib.Core.Path.{_∙_}
+use Rattle.lines.proofs.read_more.Statement.{statement}
+use Rattle.lines.proofs.read_more.Tie as tie
+
+stopped-requires : tie.Need-stopped-requires
+stopped-requires c κs = search needs
+
+returns : tie.Need-returns
+returns c =
+    record { kept = λ a b. absurd (omega arith); seen = λ a b. absurd (omega arith); more = search needs; front = λ o. cc }
+
+stopped-requires-2 : tie.Need-stopped-requires-2
+stopped-requires-2 c κs = search needs
+
+returns-2 : tie.Need-returns-2
+returns-2 c =
+    record { kept = λ a b. absurd (omega arith); seen = λ a b. absurd (omega arith); more = search needs; front = λ o. cc }
+
+keep-rest-requires : tie.Need-keep-rest-requires
+keep-rest-requires c κs = search needs
+
+read-behind-requires : tie.Need-read-behind-requires
+read-behind-requires c κs = search needs
+
+same-length : tie.Need-same-length
+same-length c = search needs
+
+returns-3 : tie.Need-returns-3
+returns-3 c =
+    record {
+      kept = λ a b. rw (← c .before .before .before .before .before .before .keep-rest .ensures .count a b) (c .before .before .read-behind .ensures .stay ∙ c .before .before .before .before .before .before .keep-rest .ensures .kept a b);
+      seen = λ a b. c .before .before .read-behind .ensures .seen ∙ c .before .before .before .before .before .before .keep-rest .ensures .count a b;
+      more = search needs;
+      front = c .before .before .read-behind .ensures .front;
+    }
+
+pub read-more-spec : {M : Type 1} → statement M
+read-more-spec =
+    tie.close
+    (tie.spec
+    stopped-requires
+    returns
+    stopped-requires-2
+    returns-2
+    keep-rest-requires
+    read-behind-requires
+    same-length
+    returns-3)
