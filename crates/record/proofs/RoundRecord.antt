@@ -17,10 +17,9 @@ use Rattle.record.specs.declared.layout.Record.{Record}
 use Rattle.record.specs.declared.layout.Record.the-variants.{ComponentRecord, TaskRecord, EndRecord, NoRecord}
 use Rattle.record.specs.Field.{encode, field, Bytes}
 use Rattle.record.specs.Row.{rowLength, rowBytes, valuesAt}
-use Rattle.record.specs.Layout.{rowOf, framed, headBytes, taskBytes, endBytes, recordBytes, headSize, recordWith, ofKind, recordOf}
+use Rattle.record.specs.Layout.{statedRow, askedRow, rowOf, framed, headBytes, taskBytes, endBytes, recordBytes, headSize, recordWith, ofKind, recordOf}
 use Rattle.record.proofs.Cases.{cases}
-use Rattle.record.proofs.FieldLaws.{field-below}
-use Rattle.record.proofs.RowLaws.{Fit, row-length, values-back, bytes-back}
+use Rattle.record.proofs.RowLaws.{Fit, row-length, values-back, bytes-back, values-fit}
 use Rattle.record.proofs.KindLaws.{by-kind}
 
 -- the head with these numbers
@@ -53,10 +52,10 @@ module _ (s : List ℕ) (bytes : Bytes s) where
   unfolding rowOf recordWith recordBytes headBytes taskBytes endBytes headSize encode
   with-kind =
       by-kind Kept
-      (λ l h e f. (field-below 2 s 4 bytes, opened (2 ∷ 4 ∷ 4 ∷ 4 ∷ 0 ∷ 0 ∷ []) 18 1 h e f))
+      (λ l h e f. (values-fit statedRow s 0 bytes .1 .1 .0, opened (2 ∷ 4 ∷ 4 ∷ 4 ∷ 0 ∷ 0 ∷ []) 18 1 h e f))
       (λ l h e f. opened (4 ∷ 4 ∷ 4 ∷ 0 ∷ 0 ∷ 0 ∷ []) 16 2 h e f)
       (λ l h e f. opened (2 ∷ 0 ∷ 0 ∷ 0 ∷ 0 ∷ 0 ∷ []) 6 3 h e f)
-      (λ l h e f. (field-below 2 s 4 bytes, opened (2 ∷ 4 ∷ 4 ∷ 0 ∷ 0 ∷ 0 ∷ []) 14 4 h e f))
+      (λ l h e f. (values-fit askedRow s 0 bytes .1 .1 .0, opened (2 ∷ 4 ∷ 4 ∷ 0 ∷ 0 ∷ 0 ∷ []) 14 4 h e f))
       (λ k u l h e f. absurd (l (ap rowLength (u .row))))
 
   of-kind : Faithful s (ofKind s (field s 2 2) (field s 0 2))
@@ -76,7 +75,7 @@ module _ (s : List ℕ) (bytes : Bytes s) where
 
 -- values that fit their fields are read back
 module _ (kind : ℕ) (ws fields rest : List ℕ) where
-  pub record-back : rowOf kind ≡ 2 ∷ 2 ∷ ws → Fit (2 ∷ 2 ∷ ws) (rowLength (2 ∷ 2 ∷ ws) ∷ kind ∷ fields)
+  record-back : rowOf kind ≡ 2 ∷ 2 ∷ ws → Fit (2 ∷ 2 ∷ ws) (rowLength (2 ∷ 2 ∷ ws) ∷ kind ∷ fields)
       → recordOf (framed kind (2 ∷ 2 ∷ ws) fields ++ rest) ≡ recordWith kind (rowLength (2 ∷ 2 ∷ ws) ∷ kind ∷ fields)
   unfolding recordOf ofKind
   record-back row fit =

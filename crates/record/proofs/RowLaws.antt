@@ -1,10 +1,10 @@
 -- What holds of every row, whatever its widths: it has as many bytes as its widths together, its bytes are read back as its values, the bytes that stand in it are those of the values read, and these fit.
-use Prim.Native.Nat.{ℕ, zero, suc, _+_, _^_, _≤_, _<_}
+use Prim.Native.Nat.{ℕ, zero, _+_, _^_, _≤_, _<_}
 use mathlib.Core.Path.{_≡_, refl, sym, ap, ap₂, _∙_}
 use mathlib.Core.List.{List, [], _∷_, _++_, append-assoc}
 use native.Mathlib.Nat.{add-assoc, add-zero}
 use native.Mathlib.Omega.{arith}
-use lib.ListN.{length, getD, drop, length-append}
+use lib.ListN.{length, drop, length-append}
 use Rattle.record.specs.Field.{encode, field, Bytes}
 use Rattle.record.specs.Row.{rowLength, rowBytes, valuesAt}
 use Rattle.record.proofs.FieldLaws.{length-encode, decode-encode, field-past, field-bytes, field-below}

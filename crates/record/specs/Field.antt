@@ -1,4 +1,4 @@
--- Fields: "all little-endian, times of 4 bytes, numbers of 2" (01, "The sheet"). The width is a number of bytes.
+-- One field of a record (RULES 10): a number in so many bytes, its lowest byte first. A time has 4, any other number 2.
 use Prim.Native.Nat.{ℕ, zero, suc, _+_, _*_, _/_, _%_, _<_}
 use mathlib.Core.List.{List, [], _∷_}
 use lib.ListN.{getD}

@@ -15,7 +15,7 @@ use Rattle.record.specs.declared.layout.Record.the-variants.{ComponentRe
 use Rattle.record.specs.Field.{field}
 use Rattle.record.specs.Row.{rowLength, rowBytes, valuesAt}
 
--- ---- the kinds, each a row of widths: length, kind, then the fields; 0 fills up
+-- ---- the kinds, each a row of widths: length, kind, then the fields; 0 fills up to eight
 
 abbrev pub statedRow : List ℕ
 statedRow = 2 ∷ 2 ∷ 2 ∷ 4 ∷ 4 ∷ 4 ∷ 0 ∷ 0 ∷ []
@@ -47,14 +47,14 @@ abbrev pub framed : ℕ → List ℕ → List ℕ → List ℕ
 framed kind row fields = rowBytes row (rowLength row ∷ kind ∷ fields)
 
 unfoldable pub headBytes : ℕ → ℕ → Capacity → ℕ → List ℕ
-headBytes number period (Stated u) deadline = framed 1 statedRow (number ∷ period ∷ u .0 ∷ deadline ∷ 0 ∷ 0 ∷ [])
-headBytes number period Asked deadline = framed 4 askedRow (number ∷ period ∷ deadline ∷ 0 ∷ 0 ∷ 0 ∷ [])
+headBytes number period (Stated u) deadline = framed 1 statedRow (number ∷ period ∷ u .0 ∷ deadline ∷ [])
+headBytes number period Asked deadline = framed 4 askedRow (number ∷ period ∷ deadline ∷ [])
 
 unfoldable pub taskBytes : Task → List ℕ
-taskBytes k = framed 2 taskRow (T k ∷ C k ∷ D k ∷ 0 ∷ 0 ∷ 0 ∷ [])
+taskBytes k = framed 2 taskRow (T k ∷ C k ∷ D k ∷ [])
 
 unfoldable pub endBytes : ℕ → List ℕ
-endBytes count = framed 3 endRow (count ∷ 0 ∷ 0 ∷ 0 ∷ 0 ∷ 0 ∷ [])
+endBytes count = framed 3 endRow (count ∷ [])
 
 unfoldable pub recordBytes : Record → List ℕ
 recordBytes (ComponentRecord h) = headBytes (h .number) (h .period .0) (h .capacity) (h .deadline .0)

@@ -28,4 +28,4 @@ abbrev pub numbersRow : List ℕ
 numbersRow = 4 ∷ 4 ∷ 4 ∷ 0 ∷ 0 ∷ 0 ∷ 0 ∷ 0 ∷ []
 
 unfoldable pub numbersBytes : ℕ → ℕ → ℕ → List ℕ
-numbersBytes first second third = rowBytes numbersRow (first ∷ second ∷ third ∷ 0 ∷ 0 ∷ 0 ∷ 0 ∷ 0 ∷ [])
+numbersBytes first second third = rowBytes numbersRow (first ∷ second ∷ third ∷ [])

@@ -14,19 +14,19 @@ use Rattle.budget.specs.declared.task.Task.{Task}
 use Rattle.budget.specs.Component.{rangeRefusal}
 use Rattle.budget.specs.Task.{noTask, tasksOf}
 use Rattle.budget.proofs.Places.{places, from-place, from-end}
-use Rattle.record.specs.declared.layout.Record.the-variants.{TaskRecord}
+use Rattle.record.specs.declared.layout.Record.the-variants.{ComponentRecord, TaskRecord, EndRecord}
 use Rattle.record.specs.declared.write.Written.{Written}
-use Rattle.record.specs.Field.{encode}
-use Rattle.record.specs.Layout.{headBytes, headSize, taskBytes, endBytes, recordBytes}
+use Rattle.record.specs.Layout.{headBytes, headSize, taskBytes, endBytes, recordBytes, sizeOf}
 use Rattle.record.specs.Writing.{stored, roomRefusal, written, buffered}
 use Rattle.transfer.specs.Writing.{tasksBytes, componentBytes, writingRefusal}
 use Rattle.record.proofs.Cases.{cases}
+use Rattle.record.proofs.RecordLaws.{record-length}
 use Rattle.record.proofs.StoreLaws.{room-given, written-place, written-bytes}
 pub use Rattle.record.proofs.StoreLaws.{sets-append}
 
 pub task-length : (k : Task) → length (taskBytes k) ≡ 16
-unfolding taskBytes encode
-task-length k = refl
+unfolding recordBytes sizeOf
+task-length k = record-length (TaskRecord k)
 
 pub tasks-length : (ks : List Task) → length (tasksBytes ks) ≡ 16 * length ks
 unfolding tasksBytes
@@ -76,13 +76,12 @@ module _ (start : List ℕ) (at count : ℕ) (tasks : List Task) (fits : count �
 -- ---- whole components, and the end record
 
 pub head-length : (number period : ℕ) (c : Capacity) (deadline : ℕ) → length (headBytes number period c deadline) ≡ headSize c
-unfolding headBytes encode headSize
-head-length number period (Stated u) deadline = refl
-head-length number period Asked deadline = refl
+unfolding recordBytes sizeOf
+head-length number period c deadline = record-length (ComponentRecord (record { number = number; period = record { 0 = period }; capacity = c; deadline = record { 0 = deadline } }))
 
 pub end-length : (count : ℕ) → length (endBytes count) ≡ 6
-unfolding endBytes encode
-end-length count = refl
+unfolding recordBytes sizeOf
+end-length count = record-length (EndRecord count)
 
 pub most-head : (c : Capacity) → headSize c ≤ 18
 unfolding headSize

@@ -1,12 +1,11 @@
 -- Refused at the first test that the kind's row fails, as the definition is; else the record of the row's values.
 use Prim.Native.Nat.{ℕ}
-use mathlib.Core.Path.{_≡_, sym, ap, ap₂, _∙_}
+use mathlib.Core.Path.{_≡_, sym, ap, _∙_}
 use mathlib.Core.List.{List}
 use native.Mathlib.Omega.{arith}
 use borrow.Author.Tests.{le-ltb, lt-ltb, eq-eqb, ne-eqb}
 use Rattle.record.specs.Row.{rowLength, valuesAt}
 use Rattle.record.specs.Layout.{rowOf, recordWith, ofKind}
-use Rattle.record.specs.inner.Narrow.{Narrow, Held}
 use Rattle.record.proofs.KindLaws.{narrow-row}
 use borrow.Author.Needs.{needs}
 use Rattle.record.proofs.layout.of_kind.Statement.{statement}

@@ -1,5 +1,5 @@
 -- Under 4 bytes nothing is read; else kind and length are the fields at 2 and 0, and the kind decides.
-use borrow.Author.Tests.{le-ltb, lt-ltb}
+use borrow.Author.Tests.{le-ltb}
 use Rattle.budget.proofs.Tests.{tests}
 use Rattle.record.specs.Layout.{recordOf}
 use borrow.Author.Needs.{needs}

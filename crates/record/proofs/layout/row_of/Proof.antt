@@ -1,8 +1,6 @@
 -- Each kind's row is the definition's, at the comparisons that led there.
 use Rattle.budget.proofs.Tests.{tests}
 use Rattle.record.specs.Layout.{rowOf}
-use borrow.Author.Needs.{needs}
-use native.Mathlib.Omega.{arith}
 use Rattle.record.proofs.layout.row_of.Statement.{statement}
 use Rattle.record.proofs.layout.row_of.Tie as tie
 

@@ -2,7 +2,6 @@
 use mathlib.Core.Path.{sym, ap, _∙_}
 use Rattle.record.specs.Row.{rowLength}
 use Rattle.record.specs.Layout.{rowOf}
-use Rattle.record.specs.inner.Fields.{kindOf}
 use Rattle.record.proofs.KindLaws.{narrow-row}
 use Rattle.record.proofs.RecordLaws.{size-row}
 use borrow.Author.Needs.{needs}

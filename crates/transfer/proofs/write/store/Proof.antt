@@ -1,14 +1,12 @@
 -- The component's record, then the tasks behind it, are the component's bytes stored in the buffer.
 use Prim.Native.Nat.{ℕ, _+_, _*_, _≤_}
-use mathlib.Core.Path.{_≡_, ap, _∙_}
+use mathlib.Core.Path.{_≡_, ap}
 use native.Mathlib.Omega.{arith}
 use lib.ListN.{length}
 use Rattle.budget.specs.declared.component.Component.{Component}
 use Rattle.budget.proofs.Places.{length-mapped}
 use Rattle.budget.proofs.Ranges.{in-range}
-use Rattle.record.specs.declared.layout.Head.{Head}
-use Rattle.record.specs.declared.layout.Record.the-variants.{ComponentRecord}
-use Rattle.record.specs.Layout.{headBytes, headSize, recordBytes}
+use Rattle.record.specs.Layout.{headSize, recordBytes}
 use Rattle.transfer.specs.Writing.{componentBytes}
 use Rattle.transfer.proofs.StoreLaws.{most-head, component-length, writable, head-place, head-long, stored-component}
 use borrow.Author.Needs.{needs}
