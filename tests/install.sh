@@ -41,9 +41,9 @@ installed() {
 }
 # Under DESTDIR all is staged, and pkg-config is told of PREFIX alone.
 staged() {
-    make install DESTDIR="$work/stage" PREFIX=/opt/judge || return
-    [ "$(ls "$work/stage")" = opt ] && [ "$(ls "$work/stage/opt")" = judge ] && [ ! -e /opt/judge ] &&
-        grep -qx 'prefix=/opt/judge' "$work/stage/opt/judge/lib/pkgconfig/jougsilver.pc"
+    make install DESTDIR="$work/stage" PREFIX=/srv/judge || return
+    [ "$(ls "$work/stage")" = srv ] && [ "$(ls "$work/stage/srv")" = judge ] && [ ! -e /srv/judge ] &&
+        grep -qx 'prefix=/srv/judge' "$work/stage/srv/judge/lib/pkgconfig/jougsilver.pc"
 }
 # Where the proof fails, nothing is installed.
 unproved() {

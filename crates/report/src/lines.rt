@@ -11,7 +11,6 @@ use judge::answer::Margined;
 use judge::answer::Verdict;
 use judge::margin::margin;
 use judge::verdict::verdict;
-ghost use mathlib.Core.Path.{_≡_};
 ghost use Prim.Native.Nat.{_+_, _≤_};
 ghost use mathlib.Core.List.{[], _∷_, _++_};
 ghost use Rattle.report.specs.Text.{decimal, signedText};

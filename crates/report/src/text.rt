@@ -1,8 +1,7 @@
 // Words and numbers put into a line, from a place on; each answers the place after it.
 use judge::signed::is_negative;
 use judge::signed::magnitude;
-ghost use mathlib.Core.Path.{_≡_};
-ghost use Prim.Native.Nat.{ℕ, _+_, _≤_, _<_};
+ghost use Prim.Native.Nat.{_+_, _≤_, _<_};
 ghost use lib.ListN.{length};
 ghost use Rattle.report.specs.Text.{decimal, signedText, spaced};
 ghost use Rattle.report.specs.inner.Put.{Put};
