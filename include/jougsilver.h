@@ -191,7 +191,7 @@ static inline const char *jougsilver_refusal_text(uint32_t refusal)
     case JOUGSILVER_KIND: return "a record of unknown kind";
     case JOUGSILVER_LENGTH: return "a record whose length is not its kind's";
     case JOUGSILVER_NO_COMPONENT: return "a task before any component";
-    case JOUGSILVER_NUMBER: return "a component number not above the one before";
+    case JOUGSILVER_NUMBER: return "a component number that does not rise";
     case JOUGSILVER_TASKS: return "more than 64 tasks in a component";
     case JOUGSILVER_COMPONENTS: return "more than 256 components";
     case JOUGSILVER_END: return "a wrong count in the end record, or bytes after it";

@@ -125,7 +125,7 @@ meaning() { # NUMBER
     2) echo "a record of unknown kind" ;;
     3) echo "a record whose length is not its kind's" ;;
     4) echo "a task before any component" ;;
-    5) echo "a component number not above the one before" ;;
+    5) echo "a component number that does not rise" ;;
     6) echo "more than 64 tasks in a component" ;;
     7) echo "more than 256 components" ;;
     8) echo "a wrong count in the end record, or bytes after it" ;;

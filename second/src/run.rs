@@ -122,7 +122,7 @@ mod tests {
     }
 
     #[test]
-    fn a_deadline_at_the_very_end_is_judged_and_a_later_one_is_not() {
+    fn a_deadline_at_the_traces_end_counts_and_none_behind_it() {
         let table = Table::new(vec![Task::new(5, 1, 5)]);
         let jobs = Jobs { tasks: vec![0], releases: vec![0], works: vec![1] };
         assert_eq!(answer(&table, &jobs, &[0; 5], 1).unwrap().miss, Some((5, 0)));

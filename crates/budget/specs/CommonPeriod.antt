@@ -1,4 +1,4 @@
--- The common period L, the least common multiple of Π and the T of every task (RULES 3).
+-- The common period L (RULES 3): the smallest number that Π and the T of every task divide.
 use Prim.Native.Nat.{ℕ, zero, suc, _*_, _/_, _%_}
 use mathlib.Core.Bool.{true, false}
 use mathlib.Core.List.{List, [], _∷_}

@@ -42,7 +42,7 @@ pub record Same (a b : Component) : Type 0 where
 unfoldable pub withTasks : Component → List Task → Component
 withTasks c ks = record { number = c .number; period = c .period; capacity = c .capacity; deadline = c .deadline; table = tableOf ks }
 
--- what stands where an edit or a reading is refused: number 0, the dedicated processor as its stated interface, no tasks (RULES 11)
+-- the stand-in for a component that can't be answered (RULES 11): number 0, the dedicated processor as its stated interface, no tasks
 unfoldable pub refused : Component
 refused = record { number = 0; period = record { 0 = 1 }; capacity = Stated (record { 0 = 1 }); deadline = record { 0 = 1 }; table = tableOf [] }
 

@@ -25,7 +25,7 @@ pub struct Component {
     pub table: Table,
 }
 
-// What stands where an edit or a reading is refused: number 0, the dedicated processor as its stated interface, no tasks.
+// The stand-in for a component that can't be answered (RULES 11): number 0, the dedicated processor as its stated interface, no tasks.
 pub fn refused() -> Component
     ensures { λ r. ⌜ r ≡ refused ⌝ }
 {

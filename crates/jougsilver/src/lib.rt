@@ -1,4 +1,4 @@
-// The calls of the host, a C program: include/jougsilver.h is their other side. A `&[u8]` passes as a pointer and then a length.
+// The calls of the host, a C program: include/jougsilver.h is their other side. C sees each slice as two arguments, where it begins and how many bytes it has.
 mod answer;
 
 use crate::answer::answer;

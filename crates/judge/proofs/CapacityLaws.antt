@@ -1,4 +1,4 @@
--- The smallest capacity: supply grows with it, so what each instant needs can be taken one by one.
+-- The smallest capacity: a larger one supplies no less, so one walk over the instants raises it to what each asks for.
 use Prim.Native.Nat.{ℕ, suc, _+_, _≤_, _<_, suc-le-suc}
 use mathlib.Core.Path.{_≡_, refl, sym, _∙_, ap, subst}
 use mathlib.Core.Bool.{Bool, true, false}

@@ -1,5 +1,5 @@
 -- From the one equation of the urgent work (`Flow`): at each instant some window that ends there balances, and what has arrived is at most
--- what was given and what is left. By induction on the instant: a slot extends the window, or restarts it where its unit is not used up.
+-- what was given and what is left. By induction on the instant: the window of an instant goes on through the next slot, or begins anew behind it where the slot's unit is not used up.
 use Prim.Native.Nat.{ℕ, zero, suc, _+_, _≤_}
 use mathlib.Core.Path.{refl}
 use native.Mathlib.Decide.{decLe}

@@ -28,7 +28,7 @@ use Rattle.trace.specs.Legal.{Legal, zerosAndOnes}
 use Rattle.trace.specs.WorstTrace.{worstOffset, worstTrace}
 use Rattle.promises.specs.Synchronous.{synchronous}
 
--- a run: any legal arrival of jobs on any legal trace, of any length; nothing waits as it begins
+-- a run: jobs that arrive legally, and a legal trace, both of any length; nothing waits as it begins
 pub record Run (ks : List Task) (i : Interface) : Type 0 where
   pub jobs : List Job
   pub offset : ℕ

@@ -1,4 +1,4 @@
--- The arrival that shows a short answer right: every task is released at 0, T, 2T, … with work C.
+-- The arrival that shows a short answer right: each task releases a job of its full work in slot 0 and then every T slots.
 use Prim.Native.Nat.{ℕ, zero, suc, _%_}
 use mathlib.Core.Bool.{cond}
 use mathlib.Core.List.{List, [], _∷_, _++_}
@@ -14,7 +14,7 @@ releasedAt (k ∷ ks) i n =
     let later = releasedAt ks (suc i) n in
     cond (eqb (n % T k) 0) (record { task = i; release = n; work = C k } ∷ later) later
 
--- the jobs of the slots before slot t, in order of release and then task
+-- the jobs released before slot t, sorted by release and within a slot by task
 unfoldable pub synchronous : List Task → ℕ → List Job
 synchronous ks zero = []
 synchronous ks (suc n) = synchronous ks n ++ releasedAt ks 0 n

@@ -1,4 +1,4 @@
--- Bytes written into a buffer from a given place on, and the answer (RULES 10, 11).
+-- What storing bytes at a place makes of a buffer, and what a writer answers (RULES 10, 11).
 use Prim.Native.Nat.{ℕ, _+_}
 use mathlib.Core.Bool.{cond}
 use mathlib.Core.List.{List, [], _∷_, _++_}

@@ -1,4 +1,4 @@
-// Writing into a buffer from a given place on (RULES 10, 11): a row of values, and a record.
+// Storing a row of values, or a record, at a place of a buffer (RULES 10, 11).
 use crate::layout::ASKED;
 use crate::layout::END;
 use crate::layout::Head;

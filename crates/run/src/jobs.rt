@@ -27,7 +27,7 @@ fn apart(period: u32, task: u32, release: u32, later_task: u32, later_release: u
     release as u64 + period as u64 <= later_release as u64
 }
 
-// Whether a job and a later one are in order of release and then task, and apart.
+// Whether a job and a later one are sorted by release and then by task, and apart.
 fn follows(period: u32, task: u32, release: u32, later_task: u32, later_release: u32) -> bool
     ensures { λ r. ⌜ r ≡ follows period task release «later_task» «later_release» ⌝ }
 {

@@ -1,4 +1,4 @@
--- The part of a sheet that holds one component's records, chosen by its place in the sheet, from 0 (docs/RULES.md, 11).
+-- The part of a sheet in which one component stands, counted from 0 among the components (RULES 10, 11).
 use Prim.Native.Nat.{ℕ, _+_, _-_}
 use mathlib.Core.Bool.{cond}
 use mathlib.Core.List.{List}

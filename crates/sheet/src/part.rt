@@ -1,4 +1,4 @@
-// The part of a sheet that holds one component's records, chosen by its place in the sheet, from 0.
+// The part of a sheet in which one component stands, counted from 0 among the components.
 use crate::check::Checked;
 use crate::contents::contents_of;
 use budget::refusal;

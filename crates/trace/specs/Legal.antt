@@ -1,5 +1,5 @@
--- Legal supply (RULES 5): a trace is a row of 0 and 1 with an offset o, o < Π. In absolute time period k is the stretch
--- [kΠ, kΠ + Π) and the trace is the window [o, o + length): slot i stands at the absolute place o + i, which is place (o + i) mod Π of its period.
+-- Legal supply (RULES 5) of a trace of zeros and ones whose first slot stands at place o of its period. In absolute time period k is the stretch
+-- [kΠ, kΠ + Π) and the trace is the window [o, o + length): slot i stands at the absolute place o + i, and its place in its period is what dividing that by Π leaves.
 use Prim.Native.Nat.{ℕ, _+_, _-_, _*_, _≤_, _<_}
 use mathlib.Core.Bool.{Bool, true, cond, _&&_}
 use mathlib.Core.List.{List, [], _∷_}

@@ -19,7 +19,7 @@ pub record LegalTrace (i : Interface) (t : ℕ) : Type 0 where
   pub slots : length trace ≡ t
   pub legal : Legal i offset trace
 
--- n is the least number of supplied slots over all legal traces of t slots
+-- no legal trace of t slots has fewer supplied slots than n, and one has just n
 pub record Least (i : Interface) (t n : ℕ) : Type 0 where
   pub none-has-fewer : (w : LegalTrace i t) → n ≤ supplied (w .trace)
   pub some-has-it : (w : LegalTrace i t) × (supplied (w .trace) ≡ n)

@@ -1,4 +1,4 @@
-// The yes or no on a supply trace (RULES 5).
+// The trace question: whether a trace is legal (RULES 5).
 use budget::interface::Interface;
 use budget::interface::check_interface;
 use budget::quantity::Time;

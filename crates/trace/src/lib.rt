@@ -1,2 +1,2 @@
-// Legal supply: the yes or no on a supply trace.
+// Legal supply: the trace question.
 pub mod legal;

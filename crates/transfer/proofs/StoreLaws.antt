@@ -1,4 +1,4 @@
--- Laws of the bytes of tasks and components, and of storing them. Records are written one after the other, so that what is still to be stored, stored onto the buffer as it is now, gives the buffer as it must end.
+-- Laws of the bytes of tasks and components, and of storing them. Records are written one after the other: what is left to store, put onto the buffer as it stands, always gives the same last buffer.
 use Prim.Native.Nat.{ℕ, _+_, _*_, _≤_, _<_, zero-le}
 use mathlib.Core.Path.{_≡_, refl, sym, ap, ap₂, _∙_}
 use mathlib.Core.List.{List, [], _∷_, _++_}

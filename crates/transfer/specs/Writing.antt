@@ -1,4 +1,4 @@
--- Writing one component, or the end record, into a buffer from a given place on (RULES 10, 11).
+-- What writing a component, or the end, makes of a buffer and answers (RULES 10, 11).
 use Prim.Native.Nat.{ℕ}
 use mathlib.Core.Bool.{cond}
 use mathlib.Core.List.{List, [], _∷_, _++_}

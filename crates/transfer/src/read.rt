@@ -1,4 +1,4 @@
-// Reading one component, chosen by its place in the sheet, from 0.
+// Reading a component: by its place among the components, from its part alone, or between edges that are known.
 use budget::component::Component;
 use budget::component::refused;
 use budget::refusal;

@@ -1,4 +1,4 @@
-// Writing one component, or the end record, into a buffer from a given place on (RULES 10, 11).
+// Writing a component's records, or the end's, at a place of a buffer (RULES 10, 11).
 use budget::component::Component;
 use budget::component::check_ranges;
 use budget::refusal;

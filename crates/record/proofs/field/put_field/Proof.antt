@@ -1,4 +1,4 @@
--- What is still to be stored, stored onto the part as it is now, gives the part as it must end.
+-- The loop's invariant: the bytes left to store, put onto the part as it stands, give the last part.
 use native.Mathlib.Omega.{arith}
 use Rattle.record.proofs.FieldLoops.{Put, put-none, put-more, put-all}
 use Rattle.record.proofs.field.put_field.Statement.{statement}

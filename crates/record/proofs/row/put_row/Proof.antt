@@ -1,4 +1,4 @@
--- What is still to be stored, stored onto the part as it is now, gives the part as it must end.
+-- Field by field: the fields left to store, put onto the part as it stands, give the last part.
 use Prim.Native.Nat.{_-_}
 use mathlib.Core.Path.{_≡_, refl, sym, _∙_}
 use lib.ListN.{length}

@@ -1,4 +1,4 @@
--- The loop's invariant: what is still to be stored, stored onto the buffer as it is now, gives the buffer as it must end.
+-- The loop's invariant: the tasks left to store, put onto the buffer as it stands, give the last buffer.
 use Prim.Native.Nat.{_-_, _≤_}
 use lib.ListN.{length}
 use Rattle.transfer.proofs.StoreLaws.{Storing, storing-none, storing-more, storing-all}
