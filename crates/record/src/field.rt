@@ -18,10 +18,10 @@ pub fn field_at(bytes: &[u8], at: usize, width: usize) -> u32
     ensures fits { λ r. ⌜ r < 256 ^ width ⌝ }
 {
     let mut value = 0;
-    let mut left = width;
-    while 0 < left {
-        left -= 1;
-        let place = at + left;
+    let mut unread = width;
+    while 0 < unread {
+        unread -= 1;
+        let place = at + unread;
         value = wide(bytes[place]) + 256 * value;
     }
     value

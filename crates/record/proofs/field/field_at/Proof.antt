@@ -7,16 +7,16 @@ use Rattle.record.proofs.field.field_at.Statement.{statement}
 use Rattle.record.proofs.field.field_at.Tie as tie
 
 abbrev Inv-loop : tie.InvT-loop
-Inv-loop bytes at width value₀ left₀ value left = Read bytes at width value left
+Inv-loop bytes at width value₀ unread₀ value unread = Read bytes at width value unread
 
 abbrev μ-loop : tie.MeasureT-loop
-μ-loop bytes at width value₀ left₀ value left = left
+μ-loop bytes at width value₀ unread₀ value unread = unread
 
 loop-holds : tie.Need-loop-holds Inv-loop μ-loop
 loop-holds c = let a = c .before .args in read-none (a .bytes .now) (a .at) (a .width)
 
-sub-left : tie.Need-sub-left Inv-loop μ-loop
-sub-left c = omega arith
+sub-unread : tie.Need-sub-unread Inv-loop μ-loop
+sub-unread c = omega arith
 
 add-place : tie.Need-add-place Inv-loop μ-loop
 add-place c = omega arith
@@ -28,21 +28,21 @@ wide-requires : tie.Need-wide-requires Inv-loop μ-loop
 wide-requires c κs = search needs
 
 mul-value : tie.Need-mul-value Inv-loop μ-loop
-mul-value c = let a = c .before .before .before .before .before .args in let l = c .before .before .before .loop in let h = small (a .width - l .left) (l .value) (omega arith) (l .inv .fits) in omega arith
+mul-value c = let a = c .before .before .before .before .before .args in let l = c .before .before .before .loop in let h = small (a .width - l .unread) (l .value) (omega arith) (l .inv .fits) in omega arith
 
 add-value : tie.Need-add-value Inv-loop μ-loop
-add-value c = let a = c .before .before .before .before .before .args in let l = c .before .before .before .loop in let h = small (a .width - l .left) (l .value) (omega arith) (l .inv .fits) in omega arith
+add-value c = let a = c .before .before .before .before .before .args in let l = c .before .before .before .loop in let h = small (a .width - l .unread) (l .value) (omega arith) (l .inv .fits) in omega arith
 
 loop-less : tie.Need-loop-less Inv-loop μ-loop
 loop-less c = omega arith
 
 loop-again : tie.Need-loop-again Inv-loop μ-loop
 loop-again c = let a = c .before .before .before .before .before .args in let l = c .before .before .before .loop in
-    read-more (a .bytes .now) (a .at) (a .width) (l .value) (l .left) (l .inv) (c .wide .result) (c .before .before .loop-test .taken) (c .wide .ensures .0) (c .wide .ensures .1)
+    read-more (a .bytes .now) (a .at) (a .width) (l .value) (l .unread) (l .inv) (c .wide .result) (c .before .before .loop-test .taken) (c .wide .ensures .0) (c .wide .ensures .1)
 
 returns : tie.Need-returns Inv-loop μ-loop
 returns c = let a = c .before .before .before .args in let l = c .before .loop in
-    read-all (a .bytes .now) (a .at) (a .width) (l .value) (l .left) (l .inv) (c .loop-test .left)
+    read-all (a .bytes .now) (a .at) (a .width) (l .value) (l .unread) (l .inv) (c .loop-test .left)
 
 pub field-at-spec : {M : Type 1} → statement M
 field-at-spec =
@@ -51,7 +51,7 @@ field-at-spec =
     Inv-loop
     μ-loop
     loop-holds
-    sub-left
+    sub-unread
     add-place
     shared-slice-read-wide
     wide-requires

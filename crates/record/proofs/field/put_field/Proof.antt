@@ -30,14 +30,14 @@ loop-less c = omega arith
 
 loop-again : tie.Need-loop-again Inv-loop μ-loop
 loop-again c = let a = c .before .before .args in let l = c .before .loop in
-    put-more (a .part .now) (a .at) (a .width) (a .value) (l .part) (l .place) (l .rest) (l .left) (l .inv) (c .loop-test .taken)
+    put-more (a .part .now) (a .at) (a .width) (a .value) (l .part) (l .place) (l .rest) (l .left) (l .inv) (omega arith)
 
 same-length : tie.Need-same-length Inv-loop μ-loop
 same-length c = c .before .loop .inv .long
 
 returns : tie.Need-returns Inv-loop μ-loop
 returns c = let a = c .before .before .args in let l = c .before .loop in
-    put-all (a .part .now) (a .at) (a .width) (a .value) (l .part) (l .place) (l .rest) (l .left) (l .inv) (c .loop-test .left)
+    put-all (a .part .now) (a .at) (a .width) (a .value) (l .part) (l .place) (l .rest) (l .left) (l .inv) (omega arith)
 
 pub put-field-spec : {M : Type 1} → statement M
 put-field-spec =
