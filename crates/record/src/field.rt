@@ -12,7 +12,7 @@ fn wide(byte: u8) -> u32
 }
 
 // The number that stands in the bytes from a place on.
-pub fn field_at(bytes: &[u8], at: usize, width: usize) -> u32
+pub(crate) fn field_at(bytes: &[u8], at: usize, width: usize) -> u32
     requires { ⌜ (at + width ≤ length (now bytes)) × (width ≤ 4) ⌝ }
     ensures value { λ r. ⌜ r ≡ field (now (bytes .entry)) at width ⌝ }
     ensures fits { λ r. ⌜ r < 256 ^ width ⌝ }
@@ -28,7 +28,7 @@ pub fn field_at(bytes: &[u8], at: usize, width: usize) -> u32
 }
 
 // Puts a number into the bytes from a place on.
-pub fn put_field(part: &mut [u8], at: usize, width: usize, value: u32)
+pub(crate) fn put_field(part: &mut [u8], at: usize, width: usize, value: u32)
     requires { ⌜ at + width ≤ length (now part) ⌝ }
     ensures { λ _. ⌜ now (part .exit) ≡ sets (now (part .entry)) at (encode width value) ⌝ }
 {

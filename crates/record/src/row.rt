@@ -16,7 +16,7 @@ pub type Row = [usize; FIELDS];
 pub type Values = [u32; FIELDS];
 
 // The bytes of a row: its widths together.
-pub fn row_length(row: Row) -> usize
+pub(crate) fn row_length(row: Row) -> usize
     requires { ⌜ Narrow row ⌝ }
     ensures { λ r. ⌜ r ≡ rowLength row ⌝ }
 {
@@ -30,7 +30,7 @@ pub fn row_length(row: Row) -> usize
 }
 
 // The values that stand in the row that begins a slice.
-pub fn values_at(bytes: &[u8], row: Row) -> Values
+pub(crate) fn values_at(bytes: &[u8], row: Row) -> Values
     requires { ⌜ Narrow row × (rowLength row ≤ length (now bytes)) ⌝ }
     ensures values { λ r. ⌜ r ≡ valuesAt row (now (bytes .entry)) 0 ⌝ }
     ensures fit { λ r. ⌜ Held row r ⌝ }
@@ -48,7 +48,7 @@ pub fn values_at(bytes: &[u8], row: Row) -> Values
 }
 
 // Puts a row of values into the bytes that begin a part.
-pub fn put_row(part: &mut [u8], row: Row, values: Values)
+pub(crate) fn put_row(part: &mut [u8], row: Row, values: Values)
     requires { ⌜ rowLength row ≤ length (now part) ⌝ }
     ensures { λ _. ⌜ now (part .exit) ≡ sets (now (part .entry)) 0 (rowBytes row values) ⌝ }
 {
