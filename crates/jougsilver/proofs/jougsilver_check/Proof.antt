@@ -6,18 +6,6 @@ use borrow.Author.Needs.{needs}
 use Rattle.jougsilver.proofs.jougsilver_check.Statement.{statement}
 use Rattle.jougsilver.proofs.jougsilver_check.Tie as tie
 
-check-sheet-requires : tie.Need-check-sheet-requires
-check-sheet-requires c κs = search needs
-
-write-checked-requires : tie.Need-write-checked-requires
-write-checked-requires c κs = search needs
-
-cast-result : tie.Need-cast-result
-cast-result c = search needs
-
-same-length : tie.Need-same-length
-same-length c = search needs
-
 returns : tie.Need-returns
 unfolding written
 returns c = let w = c .before .before .before .write-checked in
@@ -26,4 +14,4 @@ returns c = let w = c .before .before .before .write-checked in
 pub jougsilver-check-spec : {M : Type 1} → statement M
 jougsilver-check-spec =
     tie.close
-    (tie.spec check-sheet-requires write-checked-requires cast-result same-length returns)
+    (tie.spec (λ c κs. search needs) (λ c κs. search needs) (λ c. search needs) (λ c. search needs) returns)

@@ -8,27 +8,12 @@ use borrow.Author.Needs.{needs}
 use Rattle.jougsilver.proofs.jougsilver_judge.Statement.{statement}
 use Rattle.jougsilver.proofs.jougsilver_judge.Tie as tie
 
-read-component-requires : tie.Need-read-component-requires
-read-component-requires c κs = search needs
-
-cast-result : tie.Need-cast-result
-cast-result c = search needs
-
 returns : tie.Need-returns
 returns c =
     let a = c .before .before .before .before .args in
     let r = reading-first (a .sheet .now) (a .place) (length (a .reply .now)) (a .at) (c .before .read-component .result .refusal)
     (ap (λ (x : Reading). x .refusal) (c .before .read-component .ensures)) (c .if1 .taken) in
     (r, unwritten (c .before .read-component .result .refusal) (hostRefusal (a .sheet .now) (a .place) (length (a .reply .now)) (a .at)) (a .reply .now) (a .at) (hostReply (a .sheet .now) (a .place)) r (c .if1 .taken))
-
-answer-requires : tie.Need-answer-requires
-answer-requires c κs = search needs
-
-cast-result-2 : tie.Need-cast-result-2
-cast-result-2 c = search needs
-
-same-length : tie.Need-same-length
-same-length c = search needs
 
 returns-2 : tie.Need-returns-2
 unfolding hostRefusal
@@ -41,10 +26,10 @@ pub jougsilver-judge-spec : {M : Type 1} → statement M
 jougsilver-judge-spec =
     tie.close
     (tie.spec
-    read-component-requires
-    cast-result
+    (λ c κs. search needs)
+    (λ c. search needs)
     returns
-    answer-requires
-    cast-result-2
-    same-length
+    (λ c κs. search needs)
+    (λ c. search needs)
+    (λ c. search needs)
     returns-2)

@@ -32,21 +32,6 @@ returns-3 c = record { long = refl; count = λ a b. refl; kept = λ a b. rw (c .
 loop-holds : tie.Need-loop-holds Inv-loop μ-loop
 loop-holds c = (refl, λ k l. omega arith, λ k l. refl)
 
-add-row : tie.Need-add-row Inv-loop μ-loop
-add-row c = search needs
-
-slice-read-row : tie.Need-slice-read-row Inv-loop μ-loop
-slice-read-row c = search needs
-
-slice-write-row : tie.Need-slice-write-row Inv-loop μ-loop
-slice-write-row c = search needs
-
-add-to : tie.Need-add-to Inv-loop μ-loop
-add-to c = search needs
-
-loop-less : tie.Need-loop-less Inv-loop μ-loop
-loop-less c = search needs
-
 loop-again : tie.Need-loop-again Inv-loop μ-loop
 loop-again c =
     let row : List ℕ = c .before .before .loop .row in
@@ -57,9 +42,6 @@ loop-again c =
           (getD-set-same row to _ 0 (omega arith) ∙ c .before .before .loop .inv .2 _ (omega arith)),
       λ k l. getD-set-other row to k _ 0 (λ e. omega arith) ∙ c .before .before .loop .inv .2 k (omega arith),
     )
-
-same-length : tie.Need-same-length Inv-loop μ-loop
-same-length c = search needs
 
 returns-4 : tie.Need-returns-4 Inv-loop μ-loop
 returns-4 c = record { long = c .before .loop .inv .0; count = λ a b. refl; kept = λ a b. front-take (c .before .before .before .before .before .args .row .now) (c .before .loop .row) (c .before .before .before .before .before .args .from) (c .before .before .before .before .before .args .end - c .before .before .before .before .before .args .from) (omega arith) (omega arith) (λ k l. c .before .loop .inv .1 k (omega arith)) }
@@ -74,11 +56,11 @@ keep-rest-spec =
     returns-2
     returns-3
     loop-holds
-    add-row
-    slice-read-row
-    slice-write-row
-    add-to
-    loop-less
+    (λ c. search needs)
+    (λ c. search needs)
+    (λ c. search needs)
+    (λ c. search needs)
+    (λ c. search needs)
     loop-again
-    same-length
+    (λ c. search needs)
     returns-4)

@@ -5,28 +5,13 @@ use mathlib.Core.Path.{_∙_}
 use Rattle.lines.proofs.read_more.Statement.{statement}
 use Rattle.lines.proofs.read_more.Tie as tie
 
-stopped-requires : tie.Need-stopped-requires
-stopped-requires c κs = search needs
-
 returns : tie.Need-returns
 returns c =
     record { kept = λ a b. absurd (omega arith); seen = λ a b. absurd (omega arith); more = search needs; front = λ o. cc }
 
-stopped-requires-2 : tie.Need-stopped-requires-2
-stopped-requires-2 c κs = search needs
-
 returns-2 : tie.Need-returns-2
 returns-2 c =
     record { kept = λ a b. absurd (omega arith); seen = λ a b. absurd (omega arith); more = search needs; front = λ o. cc }
-
-keep-rest-requires : tie.Need-keep-rest-requires
-keep-rest-requires c κs = search needs
-
-read-behind-requires : tie.Need-read-behind-requires
-read-behind-requires c κs = search needs
-
-same-length : tie.Need-same-length
-same-length c = search needs
 
 returns-3 : tie.Need-returns-3
 returns-3 c =
@@ -41,11 +26,11 @@ pub read-more-spec : {M : Type 1} → statement M
 read-more-spec =
     tie.close
     (tie.spec
-    stopped-requires
+    (λ c κs. search needs)
     returns
-    stopped-requires-2
+    (λ c κs. search needs)
     returns-2
-    keep-rest-requires
-    read-behind-requires
-    same-length
+    (λ c κs. search needs)
+    (λ c κs. search needs)
+    (λ c. search needs)
     returns-3)

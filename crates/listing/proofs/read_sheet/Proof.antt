@@ -19,35 +19,11 @@ abbrev μ-loop : tie.MeasureT-loop
 counts : (n : ℕ) (xs : List ℕ) → n ≤ length xs → Counts n xs
 counts n xs h = (h, sym (length-take-le n xs h))
 
-loop-holds : tie.Need-loop-holds Inv-loop μ-loop
-loop-holds c = search needs
-
-read-behind-requires : tie.Need-read-behind-requires Inv-loop μ-loop
-read-behind-requires c κs = search needs
-
-same-length : tie.Need-same-length Inv-loop μ-loop
-same-length c = search needs
-
 returns : tie.Need-returns Inv-loop μ-loop
 returns c = counts _ _ (omega arith)
 
-add-held : tie.Need-add-held Inv-loop μ-loop
-add-held c = search needs
-
-loop-less : tie.Need-loop-less Inv-loop μ-loop
-loop-less c = search needs
-
-loop-again : tie.Need-loop-again Inv-loop μ-loop
-loop-again c = search needs
-
-same-length-2 : tie.Need-same-length-2 Inv-loop μ-loop
-same-length-2 c = search needs
-
 returns-2 : tie.Need-returns-2 Inv-loop μ-loop
 returns-2 c = counts _ _ (omega arith)
-
-same-length-3 : tie.Need-same-length-3 Inv-loop μ-loop
-same-length-3 c = search needs
 
 returns-3 : tie.Need-returns-3 Inv-loop μ-loop
 returns-3 c = counts _ _ (omega arith)
@@ -58,14 +34,14 @@ read-sheet-spec =
     (tie.spec
     Inv-loop
     μ-loop
-    loop-holds
-    read-behind-requires
-    same-length
+    (λ c. search needs)
+    (λ c κs. search needs)
+    (λ c. search needs)
     returns
-    add-held
-    loop-less
-    loop-again
-    same-length-2
+    (λ c. search needs)
+    (λ c. search needs)
+    (λ c. search needs)
+    (λ c. search needs)
     returns-2
-    same-length-3
+    (λ c. search needs)
     returns-3)

@@ -9,30 +9,12 @@ use borrow.Author.Needs.{needs}
 use Rattle.jougsilver.proofs.answer.answer.Statement.{statement}
 use Rattle.jougsilver.proofs.answer.answer.Tie as tie
 
-verdict-requires : tie.Need-verdict-requires
-verdict-requires c κs = search needs
-
-refusal-of-requires : tie.Need-refusal-of-requires
-refusal-of-requires c κs = search needs
-
 returns : tie.Need-returns
 returns c =
     let a = c .before .before .before .before .args in
     let r = component-first (a .component) (length (a .reply .now)) (a .at) (c .before .refusal-of .result)
     (c .before .refusal-of .ensures ∙ (ap refusalOf (c .before .before .verdict .ensures) ∙ refused-as (a .component))) (c .if1 .taken) in
     (r, unwritten (c .before .refusal-of .result) (answerRefusal (a .component) (length (a .reply .now)) (a .at)) (a .reply .now) (a .at) (replyOn (a .component)) r (c .if1 .taken))
-
-margin-requires : tie.Need-margin-requires
-margin-requires c κs = search needs
-
-reply-of-requires : tie.Need-reply-of-requires
-reply-of-requires c κs = search needs
-
-write-reply-requires : tie.Need-write-reply-requires
-write-reply-requires c κs = search needs
-
-same-length : tie.Need-same-length
-same-length c = search needs
 
 returns-2 : tie.Need-returns-2
 unfolding answerRefusal replyOn written
@@ -48,11 +30,11 @@ pub answer-spec : {M : Type 1} → statement M
 answer-spec =
     tie.close
     (tie.spec
-    verdict-requires
-    refusal-of-requires
+    (λ c κs. search needs)
+    (λ c κs. search needs)
     returns
-    margin-requires
-    reply-of-requires
-    write-reply-requires
-    same-length
+    (λ c κs. search needs)
+    (λ c κs. search needs)
+    (λ c κs. search needs)
+    (λ c. search needs)
     returns-2)

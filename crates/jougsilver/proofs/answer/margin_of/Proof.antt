@@ -6,12 +6,6 @@ use Rattle.jougsilver.proofs.answer.margin_of.Tie as tie
 enum-told : tie.Need-enum-told
 enum-told c = search needs
 
-enum-known-margined : tie.Need-enum-known-margined
-enum-known-margined c = search needs
-
-enum-told-2 : tie.Need-enum-told-2
-enum-told-2 c = search needs
-
 returns : tie.Need-returns
 returns c = rw (c .enum-told .given .1)
 
@@ -23,4 +17,4 @@ returns-3 c = rw (c .enum-told2 .given .1)
 
 pub margin-of-spec : {M : Type 1} → statement M
 margin-of-spec =
-    tie.close (tie.spec enum-told enum-known-margined enum-told-2 returns returns-2 returns-3)
+    tie.close (tie.spec enum-told (λ c. search needs) (λ c. search needs) returns returns-2 returns-3)

@@ -18,27 +18,6 @@ fields : (n : ℕ) {code code' : ℕ} {u u' : Units} {i i' : Time} {m m' : ℕ} 
     → _≡_ {A = Reply} (record { number = n; code = code; capacity = u; instant = i; margin = m; stands = t }) (record { number = n; code = code'; capacity = u'; instant = i'; margin = m'; stands = t' })
 fields n p q r s t = cc
 
-verdict-in-requires : tie.Need-verdict-in-requires
-verdict-in-requires c κs = search needs
-
-code-of-requires : tie.Need-code-of-requires
-code-of-requires c κs = search needs
-
-capacity-in-requires : tie.Need-capacity-in-requires
-capacity-in-requires c κs = search needs
-
-instant-of-requires : tie.Need-instant-of-requires
-instant-of-requires c κs = search needs
-
-margin-of-requires : tie.Need-margin-of-requires
-margin-of-requires c κs = search needs
-
-twos-complement-requires : tie.Need-twos-complement-requires
-twos-complement-requires c κs = search needs
-
-margin-instant-of-requires : tie.Need-margin-instant-of-requires
-margin-instant-of-requires c κs = search needs
-
 returns : tie.Need-returns
 unfolding replyOf
 returns c =
@@ -54,11 +33,11 @@ pub reply-of-spec : {M : Type 1} → statement M
 reply-of-spec =
     tie.close
     (tie.spec
-    verdict-in-requires
-    code-of-requires
-    capacity-in-requires
-    instant-of-requires
-    margin-of-requires
-    twos-complement-requires
-    margin-instant-of-requires
+    (λ c κs. search needs)
+    (λ c κs. search needs)
+    (λ c κs. search needs)
+    (λ c κs. search needs)
+    (λ c κs. search needs)
+    (λ c κs. search needs)
+    (λ c κs. search needs)
     returns)

@@ -15,26 +15,11 @@ abbrev μ-loop : tie.MeasureT-loop
 loop-holds : tie.Need-loop-holds Inv-loop μ-loop
 loop-holds c = let a = c .before .args in read-none (a .bytes .now) (a .at) (a .width)
 
-sub-unread : tie.Need-sub-unread Inv-loop μ-loop
-sub-unread c = omega arith
-
-add-place : tie.Need-add-place Inv-loop μ-loop
-add-place c = omega arith
-
-shared-slice-read-wide : tie.Need-shared-slice-read-wide Inv-loop μ-loop
-shared-slice-read-wide c = omega arith
-
-wide-requires : tie.Need-wide-requires Inv-loop μ-loop
-wide-requires c κs = search needs
-
 mul-value : tie.Need-mul-value Inv-loop μ-loop
 mul-value c = let a = c .before .before .before .before .before .args in let l = c .before .before .before .loop in let h = small (a .width - l .unread) (l .value) (omega arith) (l .inv .fits) in omega arith
 
 add-value : tie.Need-add-value Inv-loop μ-loop
 add-value c = let a = c .before .before .before .before .before .args in let l = c .before .before .before .loop in let h = small (a .width - l .unread) (l .value) (omega arith) (l .inv .fits) in omega arith
-
-loop-less : tie.Need-loop-less Inv-loop μ-loop
-loop-less c = omega arith
 
 loop-again : tie.Need-loop-again Inv-loop μ-loop
 loop-again c = let a = c .before .before .before .before .before .args in let l = c .before .before .before .loop in
@@ -51,12 +36,12 @@ field-at-spec =
     Inv-loop
     μ-loop
     loop-holds
-    sub-unread
-    add-place
-    shared-slice-read-wide
-    wide-requires
+    (λ c. omega arith)
+    (λ c. omega arith)
+    (λ c. omega arith)
+    (λ c κs. search needs)
     mul-value
     add-value
-    loop-less
+    (λ c. omega arith)
     loop-again
     returns)

@@ -13,21 +13,6 @@ abbrev μ-loop : tie.MeasureT-loop
 loop-holds : tie.Need-loop-holds Inv-loop μ-loop
 loop-holds c = let a = c .args in put-none (a .part .now) (a .at) (a .width) (a .value)
 
-cast-part : tie.Need-cast-part Inv-loop μ-loop
-cast-part c = omega arith
-
-slice-write-part : tie.Need-slice-write-part Inv-loop μ-loop
-slice-write-part c = omega arith
-
-add-place : tie.Need-add-place Inv-loop μ-loop
-add-place c = omega arith
-
-sub-left : tie.Need-sub-left Inv-loop μ-loop
-sub-left c = omega arith
-
-loop-less : tie.Need-loop-less Inv-loop μ-loop
-loop-less c = omega arith
-
 loop-again : tie.Need-loop-again Inv-loop μ-loop
 loop-again c = let a = c .before .before .args in let l = c .before .loop in
     put-more (a .part .now) (a .at) (a .width) (a .value) (l .part) (l .place) (l .rest) (l .left) (l .inv) (omega arith)
@@ -46,11 +31,11 @@ put-field-spec =
     Inv-loop
     μ-loop
     loop-holds
-    cast-part
-    slice-write-part
-    add-place
-    sub-left
-    loop-less
+    (λ c. omega arith)
+    (λ c. omega arith)
+    (λ c. omega arith)
+    (λ c. omega arith)
+    (λ c. omega arith)
     loop-again
     same-length
     returns)

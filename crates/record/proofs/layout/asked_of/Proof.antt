@@ -3,21 +3,9 @@ use borrow.Author.Needs.{needs}
 use Rattle.record.proofs.layout.asked_of.Statement.{statement}
 use Rattle.record.proofs.layout.asked_of.Tie as tie
 
-array-read-number : tie.Need-array-read-number
-array-read-number c = search needs
-
-number-requires : tie.Need-number-requires
-number-requires c κs = search needs
-
-array-read-t9 : tie.Need-array-read-t9
-array-read-t9 c = search needs
-
-array-read-t14 : tie.Need-array-read-t14
-array-read-t14 c = search needs
-
 returns : tie.Need-returns
 returns c = cc
 
 pub asked-of-spec : {M : Type 1} → statement M
 asked-of-spec =
-    tie.close (tie.spec array-read-number number-requires array-read-t9 array-read-t14 returns)
+    tie.close (tie.spec (λ c. search needs) (λ c κs. search needs) (λ c. search needs) (λ c. search needs) returns)

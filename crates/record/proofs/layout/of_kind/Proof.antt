@@ -11,9 +11,6 @@ use borrow.Author.Needs.{needs}
 use Rattle.record.proofs.layout.of_kind.Statement.{statement}
 use Rattle.record.proofs.layout.of_kind.Tie as tie
 
-row-of-requires : tie.Need-row-of-requires
-row-of-requires c κs = search needs
-
 -- the length of the kind's row
 size : (c : tie.After-row-length) → rowLength (rowOf (c .before .before .before .args .kind)) ≡ c .row-length .result
 size c = ap rowLength (sym (c .before .row-of .ensures)) ∙ sym (c .row-length .ensures)
@@ -50,7 +47,7 @@ pub of-kind-spec : {M : Type 1} → statement M
 of-kind-spec =
     tie.close
     (tie.spec
-    row-of-requires
+    (λ c κs. search needs)
     row-length-requires
     returns
     returns-2

@@ -11,12 +11,6 @@ stated-of-requires : tie.Need-stated-of-requires
 unfolding rowOf
 stated-of-requires c κs = rw (c .match .keys1) at (c .before .pre 2)
 
-task-of-requires : tie.Need-task-of-requires
-task-of-requires c κs = search needs
-
-array-read-number : tie.Need-array-read-number
-array-read-number c = search needs
-
 number-requires : tie.Need-number-requires
 unfolding rowOf
 number-requires c κs = rw (c .match .keys3) at (c .before .pre 2)
@@ -41,21 +35,18 @@ returns-4 : tie.Need-returns-4
 unfolding recordWith
 returns-4 c = rw (c .before .match .keys4) (ap ComponentRecord (c .asked-of .ensures))
 
-returns-5 : tie.Need-returns-5
-unfolding recordWith
-returns-5 c = search tests
-
 pub record-with-spec : {M : Type 1} → statement M
+unfolding recordWith
 record-with-spec =
     tie.close
     (tie.spec
     stated-of-requires
-    task-of-requires
-    array-read-number
+    (λ c κs. search needs)
+    (λ c. search needs)
     number-requires
     asked-of-requires
     returns
     returns-2
     returns-3
     returns-4
-    returns-5)
+    (λ c. search tests))

@@ -9,23 +9,11 @@ use borrow.Author.Needs.{needs}
 use Rattle.record.proofs.reply.write_reply.Statement.{statement}
 use Rattle.record.proofs.reply.write_reply.Tie as tie
 
-cast-number : tie.Need-cast-number
-cast-number c = search needs
-
-cast-code : tie.Need-cast-code
-cast-code c = search needs
-
-reply-row-requires : tie.Need-reply-row-requires
-reply-row-requires c κs = search needs
-
 headed-requires : tie.Need-headed-requires
 headed-requires c κs = rw (c .reply-row .ensures) (narrow replyRow refl)
 
 write-row-requires : tie.Need-write-row-requires
 write-row-requires c κs = rw (c .before .before .reply-row .ensures) (narrow replyRow refl)
-
-same-length : tie.Need-same-length
-same-length c = search needs
 
 returns : tie.Need-returns
 unfolding replyBytes encode
@@ -38,10 +26,10 @@ pub write-reply-spec : {M : Type 1} → statement M
 write-reply-spec =
     tie.close
     (tie.spec
-    cast-number
-    cast-code
-    reply-row-requires
+    (λ c. search needs)
+    (λ c. search needs)
+    (λ c κs. search needs)
     headed-requires
     write-row-requires
-    same-length
+    (λ c. search needs)
     returns)

@@ -17,18 +17,6 @@ abbrev μ-loop : tie.MeasureT-loop
 loop-holds : tie.Need-loop-holds Inv-loop μ-loop
 loop-holds c = record { todo = refl; long = refl; here = omega arith }
 
-mul-width : tie.Need-mul-width Inv-loop μ-loop
-mul-width c = omega arith
-
-array-read-width : tie.Need-array-read-width Inv-loop μ-loop
-array-read-width c = omega arith
-
-mul-put-field : tie.Need-mul-put-field Inv-loop μ-loop
-mul-put-field c = omega arith
-
-array-read-put-field : tie.Need-array-read-put-field Inv-loop μ-loop
-array-read-put-field c = omega arith
-
 put-field-requires : tie.Need-put-field-requires Inv-loop μ-loop
 put-field-requires c κs = let a = c .before .before .before .before .args in let l = c .before .before .loop in
     let n : length (a .t2) ≡ 8 = search needs in
@@ -38,12 +26,6 @@ add-place : tie.Need-add-place Inv-loop μ-loop
 add-place c = let a = c .before .before .before .before .before .before .before .args in let l = c .before .before .before .before .before .loop in
     let n : length (a .t2) ≡ 8 = search needs in
     let e = next-length (a .t2) (l .i) (omega arith) in omega (arith, l .inv .long, l .inv .here)
-
-add-i : tie.Need-add-i Inv-loop μ-loop
-add-i c = omega arith
-
-loop-less : tie.Need-loop-less Inv-loop μ-loop
-loop-less c = omega arith
 
 loop-again : tie.Need-loop-again Inv-loop μ-loop
 loop-again c = let a = c .before .before .before .before .before .before .before .args in let l = c .before .before .before .before .before .loop in
@@ -67,14 +49,14 @@ put-row-spec =
     Inv-loop
     μ-loop
     loop-holds
-    mul-width
-    array-read-width
-    mul-put-field
-    array-read-put-field
+    (λ c. omega arith)
+    (λ c. omega arith)
+    (λ c. omega arith)
+    (λ c. omega arith)
     put-field-requires
     add-place
-    add-i
-    loop-less
+    (λ c. omega arith)
+    (λ c. omega arith)
     loop-again
     same-length
     returns)

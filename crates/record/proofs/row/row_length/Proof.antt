@@ -15,26 +15,11 @@ Inv-loop row sum₀ i₀ sum i = sum + rowLength (drop i row) ≡ rowLength row
 abbrev μ-loop : tie.MeasureT-loop
 μ-loop row sum₀ i₀ sum i = 8 - i
 
-loop-holds : tie.Need-loop-holds Inv-loop μ-loop
-loop-holds c = omega arith
-
-mul-sum : tie.Need-mul-sum Inv-loop μ-loop
-mul-sum c = omega arith
-
-array-read-sum : tie.Need-array-read-sum Inv-loop μ-loop
-array-read-sum c = omega arith
-
 add-sum : tie.Need-add-sum Inv-loop μ-loop
 add-sum c = let a = c .before .before .args in let l = c .before .loop in
     let n : length (a .t1) ≡ 8 = search needs in
     let s = narrow-short (a .t1) (c .before .before .pre) in
     let e = next-length (a .t1) (l .i) (omega arith) in omega (arith, l .inv)
-
-add-i : tie.Need-add-i Inv-loop μ-loop
-add-i c = omega arith
-
-loop-less : tie.Need-loop-less Inv-loop μ-loop
-loop-less c = omega arith
 
 loop-again : tie.Need-loop-again Inv-loop μ-loop
 loop-again c = let a = c .before .before .args in let l = c .before .loop in
@@ -52,11 +37,11 @@ row-length-spec =
     (tie.spec
     Inv-loop
     μ-loop
-    loop-holds
-    mul-sum
-    array-read-sum
+    (λ c. omega arith)
+    (λ c. omega arith)
+    (λ c. omega arith)
     add-sum
-    add-i
-    loop-less
+    (λ c. omega arith)
+    (λ c. omega arith)
     loop-again
     returns)

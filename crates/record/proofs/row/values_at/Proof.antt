@@ -19,33 +19,15 @@ loop-holds c = let a = c .before .args in
     let n : length (a .t2) ≡ 8 = search needs in
     record { todo = refl; held = none-held (a .t2) 8; long = sym n; here = omega arith }
 
-mul-width : tie.Need-mul-width Inv-loop μ-loop
-mul-width c = omega arith
-
-array-read-width : tie.Need-array-read-width Inv-loop μ-loop
-array-read-width c = omega arith
-
 field-at-requires : tie.Need-field-at-requires Inv-loop μ-loop
 field-at-requires c κs = let a = c .before .before .before .args in let l = c .before .loop in
     let n : length (a .t2) ≡ 8 = search needs in
     let e = next-length (a .t2) (l .i) (omega arith) in (omega (arith, l .inv .here), c .before .before .before .pre .0 (l .i))
 
-mul-values : tie.Need-mul-values Inv-loop μ-loop
-mul-values c = omega arith
-
-array-write-values : tie.Need-array-write-values Inv-loop μ-loop
-array-write-values c = omega arith
-
 add-place : tie.Need-add-place Inv-loop μ-loop
 add-place c = let a = c .before .before .before .before .args in let l = c .before .before .loop in
     let n : length (a .t2) ≡ 8 = search needs in
     let e = next-length (a .t2) (l .i) (omega arith) in omega (arith, l .inv .here)
-
-add-i : tie.Need-add-i Inv-loop μ-loop
-add-i c = omega arith
-
-loop-less : tie.Need-loop-less Inv-loop μ-loop
-loop-less c = omega arith
 
 loop-again : tie.Need-loop-again Inv-loop μ-loop
 loop-again c = let a = c .before .before .before .before .args in let l = c .before .before .loop in
@@ -64,13 +46,13 @@ values-at-spec =
     Inv-loop
     μ-loop
     loop-holds
-    mul-width
-    array-read-width
+    (λ c. omega arith)
+    (λ c. omega arith)
     field-at-requires
-    mul-values
-    array-write-values
+    (λ c. omega arith)
+    (λ c. omega arith)
     add-place
-    add-i
-    loop-less
+    (λ c. omega arith)
+    (λ c. omega arith)
     loop-again
     returns)

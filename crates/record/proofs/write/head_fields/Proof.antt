@@ -3,12 +3,6 @@ use borrow.Author.Needs.{needs}
 use Rattle.record.proofs.write.head_fields.Statement.{statement}
 use Rattle.record.proofs.write.head_fields.Tie as tie
 
-cast-number : tie.Need-cast-number
-cast-number c = search needs
-
-enum-known-capacity : tie.Need-enum-known-capacity
-enum-known-capacity c = search needs
-
 enum-told : tie.Need-enum-told
 enum-told c = search needs
 
@@ -19,4 +13,4 @@ returns-2 : tie.Need-returns-2
 returns-2 c = rw (c .enum-told .given .1)
 
 pub head-fields-spec : {M : Type 1} → statement M
-head-fields-spec = tie.close (tie.spec cast-number enum-known-capacity enum-told returns returns-2)
+head-fields-spec = tie.close (tie.spec (λ c. search needs) (λ c. search needs) enum-told returns returns-2)

@@ -7,19 +7,10 @@ use borrow.Author.Needs.{needs}
 use Rattle.record.proofs.write.headed.Statement.{statement}
 use Rattle.record.proofs.write.headed.Tie as tie
 
-row-length-requires : tie.Need-row-length-requires
-row-length-requires c κs = search needs
-
 cast-values : tie.Need-cast-values
 cast-values c = let a = c .before .args in
     let n : length (a .row) ≡ 8 = search needs in
     let h = narrow-short (a .row) (c .before .pre) in omega (arith, c .row-length .ensures)
-
-array-write-values : tie.Need-array-write-values
-array-write-values c = search needs
-
-array-write-values-2 : tie.Need-array-write-values-2
-array-write-values-2 c = search needs
 
 returns : tie.Need-returns
 returns c = cc
@@ -27,4 +18,4 @@ returns c = cc
 pub headed-spec : {M : Type 1} → statement M
 headed-spec =
     tie.close
-    (tie.spec row-length-requires cast-values array-write-values array-write-values-2 returns)
+    (tie.spec (λ c κs. search needs) cast-values (λ c. search needs) (λ c. search needs) returns)

@@ -8,12 +8,6 @@ use borrow.Author.Needs.{needs}
 use Rattle.record.proofs.write.size_of.Statement.{statement}
 use Rattle.record.proofs.write.size_of.Tie as tie
 
-kind-of-requires : tie.Need-kind-of-requires
-kind-of-requires c κs = search needs
-
-row-of-requires : tie.Need-row-of-requires
-row-of-requires c κs = search needs
-
 row-length-requires : tie.Need-row-length-requires
 row-length-requires c κs = rw (c .row-of .ensures) (narrow-row (c .before .kind-of .result))
 
@@ -21,4 +15,4 @@ returns : tie.Need-returns
 returns c = c .row-length .ensures ∙ (ap rowLength (c .before .row-of .ensures ∙ ap rowOf (c .before .before .kind-of .ensures)) ∙ sym (size-row (c .before .before .before .args .«record»)))
 
 pub size-of-spec : {M : Type 1} → statement M
-size-of-spec = tie.close (tie.spec kind-of-requires row-of-requires row-length-requires returns)
+size-of-spec = tie.close (tie.spec (λ c κs. search needs) (λ c κs. search needs) row-length-requires returns)

@@ -9,12 +9,9 @@ use Rattle.record.proofs.write.write_numbers.Tie as tie
 write-row-requires : tie.Need-write-row-requires
 write-row-requires c κs = narrow numbersRow refl
 
-same-length : tie.Need-same-length
-same-length c = search needs
-
 returns : tie.Need-returns
 unfolding numbersBytes
 returns c = c .before .before .write-row .ensures
 
 pub write-numbers-spec : {M : Type 1} → statement M
-write-numbers-spec = tie.close (tie.spec write-row-requires same-length returns)
+write-numbers-spec = tie.close (tie.spec write-row-requires (λ c. search needs) returns)

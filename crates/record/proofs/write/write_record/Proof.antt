@@ -5,23 +5,11 @@ use borrow.Author.Needs.{needs}
 use Rattle.record.proofs.write.write_record.Statement.{statement}
 use Rattle.record.proofs.write.write_record.Tie as tie
 
-kind-of-requires : tie.Need-kind-of-requires
-kind-of-requires c κs = search needs
-
-row-of-requires : tie.Need-row-of-requires
-row-of-requires c κs = search needs
-
-fields-of-requires : tie.Need-fields-of-requires
-fields-of-requires c κs = search needs
-
 headed-requires : tie.Need-headed-requires
 headed-requires c κs = rw (c .before .row-of .ensures) (narrow-row (c .before .before .kind-of .result))
 
 write-row-requires : tie.Need-write-row-requires
 write-row-requires c κs = rw (c .before .before .before .row-of .ensures) (narrow-row (c .before .before .before .before .kind-of .result))
-
-same-length : tie.Need-same-length
-same-length c = search needs
 
 returns : tie.Need-returns
 returns c = let d = c .before .before .before .before in
@@ -32,10 +20,10 @@ pub write-record-spec : {M : Type 1} → statement M
 write-record-spec =
     tie.close
     (tie.spec
-    kind-of-requires
-    row-of-requires
-    fields-of-requires
+    (λ c κs. search needs)
+    (λ c κs. search needs)
+    (λ c κs. search needs)
     headed-requires
     write-row-requires
-    same-length
+    (λ c. search needs)
     returns)

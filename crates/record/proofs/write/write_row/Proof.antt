@@ -12,12 +12,6 @@ use borrow.Author.Needs.{needs}
 use Rattle.record.proofs.write.write_row.Statement.{statement}
 use Rattle.record.proofs.write.write_row.Tie as tie
 
-row-length-requires : tie.Need-row-length-requires
-row-length-requires c κs = search needs
-
-check-room-requires : tie.Need-check-room-requires
-check-room-requires c κs = search needs
-
 -- the answer on the room is that on the bytes of the row
 asked : (c : tie.After-check-room) → c .check-room .result ≡ roomRefusal (length (c .before .before .before .args .buffer .now)) (c .before .before .before .args .at) (length (rowBytes (c .before .before .before .args .row) (c .before .before .before .args .values)))
 asked c = let a = c .before .before .before .args in
@@ -37,9 +31,6 @@ sub-put-row c = let h = free c in omega arith
 part-put-row-start : tie.Need-part-put-row-start
 part-put-row-start c = let h = free c in omega arith
 
-part-put-row-end : tie.Need-part-put-row-end
-part-put-row-end c = search needs
-
 put-row-requires : tie.Need-put-row-requires
 put-row-requires c κs = let a = c .before .before .before .before .before .args in let h = free (c .before) in
     rw (lent (a .buffer .now) (a .at), length-drop) (omega (arith, row-length (a .row) (a .values)))
@@ -47,9 +38,6 @@ put-row-requires c κs = let a = c .before .before .before .before .before .args
 add-t7 : tie.Need-add-t7
 add-t7 c = let a = c .before .before .before .before .before .before .before .before .args in let h = free (c .before .before .before .before) in
     omega (arith, row-length (a .row) (a .values), c .before .before .before .before .before .before .row-length .ensures)
-
-same-length : tie.Need-same-length
-same-length c = search needs
 
 returns-2 : tie.Need-returns-2
 unfolding written buffered
@@ -62,13 +50,13 @@ pub write-row-spec : {M : Type 1} → statement M
 write-row-spec =
     tie.close
     (tie.spec
-    row-length-requires
-    check-room-requires
+    (λ c κs. search needs)
+    (λ c κs. search needs)
     returns
     sub-put-row
     part-put-row-start
-    part-put-row-end
+    (λ c. search needs)
     put-row-requires
     add-t7
-    same-length
+    (λ c. search needs)
     returns-2)

@@ -7,12 +7,6 @@ use Rattle.report.proofs.Puts.{put-then}
 use Rattle.report.proofs.lines.put_accepted.Statement.{statement}
 use Rattle.report.proofs.lines.put_accepted.Tie as tie
 
-slice-aggregate-put-word : tie.Need-slice-aggregate-put-word
-slice-aggregate-put-word c = search needs
-
-put-word-requires : tie.Need-put-word-requires
-put-word-requires c κs = search needs
-
 put-field-requires : tie.Need-put-field-requires
 put-field-requires c κs =
     omega (arith, digits-32 (c .before .before .before .before .args .capacity) (omega arith), c .before .put-word .ensures .place)
@@ -35,8 +29,8 @@ pub put-accepted-spec : {M : Type 1} → statement M
 put-accepted-spec =
     tie.close
     (tie.spec
-    slice-aggregate-put-word
-    put-word-requires
+    (λ c. search needs)
+    (λ c κs. search needs)
     put-field-requires
     put-margin-requires
     returns)

@@ -7,18 +7,6 @@ use Rattle.report.proofs.lines.put_answer.Tie as tie
 enum-told : tie.Need-enum-told
 enum-told c = search needs
 
-slice-aggregate-put-word : tie.Need-slice-aggregate-put-word
-slice-aggregate-put-word c = search needs
-
-put-word-requires : tie.Need-put-word-requires
-put-word-requires c κs = search needs
-
-enum-known-judged : tie.Need-enum-known-judged
-enum-known-judged c = search needs
-
-put-verdict-requires : tie.Need-put-verdict-requires
-put-verdict-requires c κs = search needs
-
 returns : tie.Need-returns
 unfolding behind answerFields
 returns c = rw (c .before .before .before .enum-told .given .1) (c .put-word .ensures)
@@ -32,9 +20,9 @@ put-answer-spec =
     tie.close
     (tie.spec
     enum-told
-    slice-aggregate-put-word
-    put-word-requires
-    enum-known-judged
-    put-verdict-requires
+    (λ c. search needs)
+    (λ c κs. search needs)
+    (λ c. search needs)
+    (λ c κs. search needs)
     returns
     returns-2)

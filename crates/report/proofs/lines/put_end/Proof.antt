@@ -7,17 +7,8 @@ use Rattle.report.proofs.Puts.{put-then}
 use Rattle.report.proofs.lines.put_end.Statement.{statement}
 use Rattle.report.proofs.lines.put_end.Tie as tie
 
-slice-aggregate-put-word : tie.Need-slice-aggregate-put-word
-slice-aggregate-put-word c = search needs
-
-put-word-requires : tie.Need-put-word-requires
-put-word-requires c κs = search needs
-
 put-field-requires : tie.Need-put-field-requires
 put-field-requires c κs = omega (arith, digits-64 (c .before .before .before .before .args .count) (omega arith))
-
-slice-aggregate-put-word-2 : tie.Need-slice-aggregate-put-word-2
-slice-aggregate-put-word-2 c = search needs
 
 put-word-requires-2 : tie.Need-put-word-requires-2
 put-word-requires-2 c κs =
@@ -31,9 +22,9 @@ pub put-end-spec : {M : Type 1} → statement M
 put-end-spec =
     tie.close
     (tie.spec
-    slice-aggregate-put-word
-    put-word-requires
+    (λ c. search needs)
+    (λ c κs. search needs)
     put-field-requires
-    slice-aggregate-put-word-2
+    (λ c. search needs)
     put-word-requires-2
     returns)

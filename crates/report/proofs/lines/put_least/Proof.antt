@@ -28,9 +28,6 @@ put-field-requires : tie.Need-put-field-requires
 put-field-requires c κs =
     omega (arith, margin-ends (c .before), digits-32 (c .before .before .before .args .instant) (omega arith))
 
-slice-aggregate-put-word : tie.Need-slice-aggregate-put-word
-slice-aggregate-put-word c = search needs
-
 put-word-requires : tie.Need-put-word-requires
 put-word-requires c κs =
     omega (
@@ -48,4 +45,4 @@ returns c =
 
 pub put-least-spec : {M : Type 1} → statement M
 put-least-spec =
-    tie.close (tie.spec put-signed-requires put-field-requires slice-aggregate-put-word put-word-requires returns)
+    tie.close (tie.spec put-signed-requires put-field-requires (λ c. search needs) put-word-requires returns)

@@ -6,29 +6,8 @@ use Rattle.report.specs.Lines.{behind, marginFields}
 use Rattle.report.proofs.lines.put_margin.Statement.{statement}
 use Rattle.report.proofs.lines.put_margin.Tie as tie
 
-enum-known-margined : tie.Need-enum-known-margined
-enum-known-margined c = search needs
-
-put-least-requires : tie.Need-put-least-requires
-put-least-requires c κs = search needs
-
 enum-told : tie.Need-enum-told
 enum-told c = search needs
-
-slice-aggregate-put-word : tie.Need-slice-aggregate-put-word
-slice-aggregate-put-word c = search needs
-
-put-word-requires : tie.Need-put-word-requires
-put-word-requires c κs = search needs
-
-enum-told-2 : tie.Need-enum-told-2
-enum-told-2 c = search needs
-
-slice-aggregate-put-word-2 : tie.Need-slice-aggregate-put-word-2
-slice-aggregate-put-word-2 c = search needs
-
-put-word-requires-2 : tie.Need-put-word-requires-2
-put-word-requires-2 c κs = search needs
 
 returns : tie.Need-returns
 unfolding marginFields
@@ -48,14 +27,14 @@ pub put-margin-spec : {M : Type 1} → statement M
 put-margin-spec =
     tie.close
     (tie.spec
-    enum-known-margined
-    put-least-requires
+    (λ c. search needs)
+    (λ c κs. search needs)
     enum-told
-    slice-aggregate-put-word
-    put-word-requires
-    enum-told-2
-    slice-aggregate-put-word-2
-    put-word-requires-2
+    (λ c. search needs)
+    (λ c κs. search needs)
+    (λ c. search needs)
+    (λ c. search needs)
+    (λ c κs. search needs)
     returns
     returns-2
     returns-3)

@@ -8,12 +8,6 @@ use Rattle.report.proofs.Puts.{put-then}
 use Rattle.report.proofs.lines.put_refused.Statement.{statement}
 use Rattle.report.proofs.lines.put_refused.Tie as tie
 
-slice-aggregate-put-word : tie.Need-slice-aggregate-put-word
-slice-aggregate-put-word c = search needs
-
-put-word-requires : tie.Need-put-word-requires
-put-word-requires c κs = search needs
-
 put-field-requires : tie.Need-put-field-requires
 put-field-requires c κs = omega (arith, digits-32 (c .before .before .before .before .args .number) (omega arith))
 
@@ -34,9 +28,6 @@ put-field-requires-2 : tie.Need-put-field-requires-2
 put-field-requires-2 c κs =
     omega (arith, number-ends (c .before), digits-64 (c .before .before .before .before .before .before .args .place) (omega arith))
 
-slice-aggregate-put-word-2 : tie.Need-slice-aggregate-put-word-2
-slice-aggregate-put-word-2 c = search needs
-
 put-word-requires-2 : tie.Need-put-word-requires-2
 put-word-requires-2 c κs = omega (arith, place-ends (c .before .before))
 
@@ -51,10 +42,10 @@ pub put-refused-spec : {M : Type 1} → statement M
 put-refused-spec =
     tie.close
     (tie.spec
-    slice-aggregate-put-word
-    put-word-requires
+    (λ c. search needs)
+    (λ c κs. search needs)
     put-field-requires
     put-field-requires-2
-    slice-aggregate-put-word-2
+    (λ c. search needs)
     put-word-requires-2
     returns)

@@ -7,24 +7,6 @@ use Rattle.report.proofs.lines.put_verdict.Tie as tie
 enum-told : tie.Need-enum-told
 enum-told c = search needs
 
-put-accepted-requires : tie.Need-put-accepted-requires
-put-accepted-requires c κs = search needs
-
-enum-known-verdict : tie.Need-enum-known-verdict
-enum-known-verdict c = search needs
-
-put-short-requires : tie.Need-put-short-requires
-put-short-requires c κs = search needs
-
-enum-told-2 : tie.Need-enum-told-2
-enum-told-2 c = search needs
-
-slice-aggregate-put-word : tie.Need-slice-aggregate-put-word
-slice-aggregate-put-word c = search needs
-
-put-word-requires : tie.Need-put-word-requires
-put-word-requires c κs = search needs
-
 returns : tie.Need-returns
 unfolding verdictFields
 returns c = rw (c .before .before .enum-told .given .1) (c .put-accepted .ensures)
@@ -42,12 +24,12 @@ put-verdict-spec =
     tie.close
     (tie.spec
     enum-told
-    put-accepted-requires
-    enum-known-verdict
-    put-short-requires
-    enum-told-2
-    slice-aggregate-put-word
-    put-word-requires
+    (λ c κs. search needs)
+    (λ c. search needs)
+    (λ c κs. search needs)
+    (λ c. search needs)
+    (λ c. search needs)
+    (λ c κs. search needs)
     returns
     returns-2
     returns-3)

@@ -6,9 +6,6 @@ use Rattle.report.proofs.Pages.{paged, put-within}
 use Rattle.report.proofs.listing.add_component.Statement.{statement}
 use Rattle.report.proofs.listing.add_component.Tie as tie
 
-put-component-requires : tie.Need-put-component-requires
-put-component-requires c κs = search needs
-
 put-line-requires : tie.Need-put-line-requires
 put-line-requires c κs = let p = c .before .before .put-component .ensures in (omega (arith, p .room), (p .room, put-within refl p))
 
@@ -16,4 +13,4 @@ returns : tie.Need-returns
 returns c = paged refl (c .before .before .before .put-component .ensures) (c .put-line .ensures)
 
 pub add-component-spec : {M : Type 1} → statement M
-add-component-spec = tie.close (tie.spec put-component-requires put-line-requires returns)
+add-component-spec = tie.close (tie.spec (λ c κs. search needs) put-line-requires returns)

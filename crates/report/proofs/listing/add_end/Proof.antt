@@ -6,9 +6,6 @@ use Rattle.report.proofs.Pages.{paged, put-within}
 use Rattle.report.proofs.listing.add_end.Statement.{statement}
 use Rattle.report.proofs.listing.add_end.Tie as tie
 
-put-end-requires : tie.Need-put-end-requires
-put-end-requires c κs = search needs
-
 put-line-requires : tie.Need-put-line-requires
 put-line-requires c κs = let p = c .before .before .put-end .ensures in (omega (arith, p .room), (p .room, put-within refl p))
 
@@ -16,4 +13,4 @@ returns : tie.Need-returns
 returns c = paged refl (c .before .before .before .put-end .ensures) (c .put-line .ensures)
 
 pub add-end-spec : {M : Type 1} → statement M
-add-end-spec = tie.close (tie.spec put-end-requires put-line-requires returns)
+add-end-spec = tie.close (tie.spec (λ c κs. search needs) put-line-requires returns)

@@ -6,9 +6,6 @@ use Rattle.report.proofs.Pages.{paged, put-within}
 use Rattle.report.proofs.listing.add_refused.Statement.{statement}
 use Rattle.report.proofs.listing.add_refused.Tie as tie
 
-put-refused-requires : tie.Need-put-refused-requires
-put-refused-requires c κs = search needs
-
 put-line-requires : tie.Need-put-line-requires
 put-line-requires c κs = let p = c .before .before .put-refused .ensures in (omega (arith, p .room), (p .room, put-within refl p))
 
@@ -16,4 +13,4 @@ returns : tie.Need-returns
 returns c = paged refl (c .before .before .before .put-refused .ensures) (c .put-line .ensures)
 
 pub add-refused-spec : {M : Type 1} → statement M
-add-refused-spec = tie.close (tie.spec put-refused-requires put-line-requires returns)
+add-refused-spec = tie.close (tie.spec (λ c κs. search needs) put-line-requires returns)

@@ -6,12 +6,6 @@ use Rattle.report.proofs.Pages.{checked-is, known, known-few, refused-l
 use Rattle.report.proofs.listing.listing.Statement.{statement}
 use Rattle.report.proofs.listing.listing.Tie as tie
 
-contents-of-requires : tie.Need-contents-of-requires
-contents-of-requires c κs = search needs
-
-add-refused-requires : tie.Need-add-refused-requires
-add-refused-requires c κs = search needs
-
 returns : tie.Need-returns
 returns c =
     let x = c .before .before .before .before .contents-of in
@@ -37,8 +31,8 @@ pub listing-spec : {M : Type 1} → statement M
 listing-spec =
     tie.close
     (tie.spec
-    contents-of-requires
-    add-refused-requires
+    (λ c κs. search needs)
+    (λ c κs. search needs)
     returns
     add-components-requires
     add-end-requires

@@ -15,29 +15,8 @@ Inv-loop page₀ at line n i₀ page i = (i ≤ n) × (page ≡ sets page₀ at 
 abbrev μ-loop : tie.MeasureT-loop
 μ-loop page₀ at line n i₀ page i = n - i
 
-loop-holds : tie.Need-loop-holds Inv-loop μ-loop
-loop-holds c = search needs
-
-element-copy-out-page : tie.Need-element-copy-out-page Inv-loop μ-loop
-element-copy-out-page c = search needs
-
-add-page : tie.Need-add-page Inv-loop μ-loop
-add-page c = search needs
-
-element-write-page : tie.Need-element-write-page Inv-loop μ-loop
-element-write-page c = search needs
-
-add-i : tie.Need-add-i Inv-loop μ-loop
-add-i c = search needs
-
-loop-less : tie.Need-loop-less Inv-loop μ-loop
-loop-less c = omega arith
-
 loop-again : tie.Need-loop-again Inv-loop μ-loop
 loop-again c = (omega arith, one-more-stored _ _ _ _ _ (c .before .before .loop .inv .1) (omega arith))
-
-add-result : tie.Need-add-result Inv-loop μ-loop
-add-result c = search needs
 
 returns : tie.Need-returns Inv-loop μ-loop
 returns c =
@@ -57,12 +36,12 @@ put-line-spec =
     (tie.spec
     Inv-loop
     μ-loop
-    loop-holds
-    element-copy-out-page
-    add-page
-    element-write-page
-    add-i
-    loop-less
+    (λ c. search needs)
+    (λ c. search needs)
+    (λ c. search needs)
+    (λ c. search needs)
+    (λ c. search needs)
+    (λ c. omega arith)
     loop-again
-    add-result
+    (λ c. search needs)
     returns)

@@ -15,15 +15,6 @@ use Rattle.report.proofs.SignedText.{negative-text, positive-text}
 use Rattle.report.proofs.text.put_signed.Statement.{statement}
 use Rattle.report.proofs.text.put_signed.Tie as tie
 
-magnitude-requires : tie.Need-magnitude-requires
-magnitude-requires c κs = search needs
-
-cast-size : tie.Need-cast-size
-cast-size c = search needs
-
-is-negative-requires : tie.Need-is-negative-requires
-is-negative-requires c κs = search needs
-
 -- what the two calls say of the number, which they are handed by its bits
 size : (c : tie.After-is-negative) → natAbs (c .before .before .args .n) ≡ c .before .magnitude .result
 size c = ap natAbs (sym (toZ-ofZ w32 _ (c .before .before .fits .n))) ∙ sym (c .before .magnitude .ensures)
@@ -36,9 +27,6 @@ negative c = negative-text _ (sign (c .before) ∙ c .if1 .taken) ∙ ap (λ (m 
 
 positive : (c : tie.Else1) → signedText (c .before .before .before .args .n) ≡ decimal (c .before .before .magnitude .result)
 positive c = positive-text _ (sign (c .before) ∙ c .if1 .left) ∙ ap decimal (size (c .before))
-
-slice-aggregate-put-word : tie.Need-slice-aggregate-put-word
-slice-aggregate-put-word c = search needs
 
 put-word-requires : tie.Need-put-word-requires
 put-word-requires c κs = omega (arith, ap length (negative (c .before .before)))
@@ -60,10 +48,10 @@ pub put-signed-spec : {M : Type 1} → statement M
 put-signed-spec =
     tie.close
     (tie.spec
-    magnitude-requires
-    cast-size
-    is-negative-requires
-    slice-aggregate-put-word
+    (λ c κs. search needs)
+    (λ c. search needs)
+    (λ c κs. search needs)
+    (λ c. search needs)
     put-word-requires
     put-number-requires
     returns

@@ -15,29 +15,8 @@ Inv-loop line₀ at word i₀ line i = (i ≤ length word) × (line ≡ sets lin
 abbrev μ-loop : tie.MeasureT-loop
 μ-loop line₀ at word i₀ line i = length word - i
 
-loop-holds : tie.Need-loop-holds Inv-loop μ-loop
-loop-holds c = search needs
-
-shared-slice-read-line : tie.Need-shared-slice-read-line Inv-loop μ-loop
-shared-slice-read-line c = search needs
-
-add-line : tie.Need-add-line Inv-loop μ-loop
-add-line c = search needs
-
-element-write-line : tie.Need-element-write-line Inv-loop μ-loop
-element-write-line c = search needs
-
-add-i : tie.Need-add-i Inv-loop μ-loop
-add-i c = search needs
-
-loop-less : tie.Need-loop-less Inv-loop μ-loop
-loop-less c = omega arith
-
 loop-again : tie.Need-loop-again Inv-loop μ-loop
 loop-again c = (omega arith, one-more-stored _ _ _ _ _ (c .before .before .loop .inv .1) (omega arith))
-
-add-result : tie.Need-add-result Inv-loop μ-loop
-add-result c = search needs
 
 returns : tie.Need-returns Inv-loop μ-loop
 returns c = let l : length (c .before .before .args .word .now) ≤ c .before .loop .i = omega arith in record { place = omega arith; line = all-stored _ _ _ _ _ (c .before .loop .inv .1) l; room = omega arith }
@@ -48,12 +27,12 @@ put-word-spec =
     (tie.spec
     Inv-loop
     μ-loop
-    loop-holds
-    shared-slice-read-line
-    add-line
-    element-write-line
-    add-i
-    loop-less
+    (λ c. search needs)
+    (λ c. search needs)
+    (λ c. search needs)
+    (λ c. search needs)
+    (λ c. search needs)
+    (λ c. omega arith)
     loop-again
-    add-result
+    (λ c. search needs)
     returns)

@@ -6,15 +6,9 @@ use borrow.Author.Needs.{needs}
 use Rattle.sheet.proofs.check.check_sheet.Statement.{statement}
 use Rattle.sheet.proofs.check.check_sheet.Tie as tie
 
-walk-requires : tie.Need-walk-requires
-walk-requires c κs = search needs
-
-checked-of-requires : tie.Need-checked-of-requires
-checked-of-requires c κs = search needs
-
 returns : tie.Need-returns
 unfolding check
 returns c = c .checked-of .ensures ∙ ap (λ (w : Walked). checkedOf (w .state)) (c .before .before .walk .ensures)
 
 pub check-sheet-spec : {M : Type 1} → statement M
-check-sheet-spec = tie.close (tie.spec walk-requires checked-of-requires returns)
+check-sheet-spec = tie.close (tie.spec (λ c κs. search needs) (λ c κs. search needs) returns)

@@ -8,12 +8,6 @@ use borrow.Author.Needs.{needs}
 use Rattle.sheet.proofs.contents.contents_of.Statement.{statement}
 use Rattle.sheet.proofs.contents.contents_of.Tie as tie
 
-walk-requires : tie.Need-walk-requires
-walk-requires c κs = search needs
-
-checked-of-requires : tie.Need-checked-of-requires
-checked-of-requires c κs = search needs
-
 -- what the sheet is answered, at the walk's last state
 answered : (c : tie.After-checked-of) → c .checked-of .result ≡ check (c .before .before .before .before .args .sheet .now)
 unfolding check
@@ -29,4 +23,4 @@ returns-2 c = rw (← answered (c .before .before), eq-eqb _ _ (c .before .if1 .
     (ap (λ (w : Walked). record { checked = c .before .before .checked-of .result; edges = w .edges }) (c .before .before .before .before .walk .ensures))
 
 pub contents-of-spec : {M : Type 1} → statement M
-contents-of-spec = tie.close (tie.spec walk-requires checked-of-requires returns returns-2)
+contents-of-spec = tie.close (tie.spec (λ c κs. search needs) (λ c κs. search needs) returns returns-2)

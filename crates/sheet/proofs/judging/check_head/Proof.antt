@@ -9,23 +9,6 @@ use borrow.Author.Needs.{needs}
 use Rattle.sheet.proofs.judging.check_head.Statement.{statement}
 use Rattle.sheet.proofs.judging.check_head.Tie as tie
 
-returns : tie.Need-returns
-unfolding headRefusal
-returns c = search tests
-
-cast-number : tie.Need-cast-number
-cast-number c = search needs
-
-returns-2 : tie.Need-returns-2
-unfolding headRefusal
-returns-2 c = search tests
-
-units-of-requires : tie.Need-units-of-requires
-units-of-requires c κs = search needs
-
-check-interface-requires : tie.Need-check-interface-requires
-check-interface-requires c κs = search needs
-
 returns-3 : tie.Need-returns-3
 unfolding headRefusal
 returns-3 c = let h = c .before .before .before .before .before .before .before .args .head in
@@ -33,12 +16,13 @@ returns-3 c = let h = c .before .before .before .before .before .before .before 
     (c .check-interface .ensures ∙ ap (λ (q : ℕ). interfaceRefusal (interface (h .period .0) q (h .deadline .0))) (c .before .units-of .ensures))
 
 pub check-head-spec : {M : Type 1} → statement M
+unfolding headRefusal
 check-head-spec =
     tie.close
     (tie.spec
-    returns
-    cast-number
-    returns-2
-    units-of-requires
-    check-interface-requires
+    (λ c. search tests)
+    (λ c. search needs)
+    (λ c. search tests)
+    (λ c κs. search needs)
+    (λ c κs. search needs)
     returns-3)

@@ -5,25 +5,13 @@ use borrow.Author.Needs.{needs}
 use Rattle.sheet.proofs.judging.judge.Statement.{statement}
 use Rattle.sheet.proofs.judging.judge.Tie as tie
 
-check-record-requires : tie.Need-check-record-requires
-check-record-requires c κs = search needs
-
-refuse-requires : tie.Need-refuse-requires
-refuse-requires c κs = search needs
-
 returns : tie.Need-returns
 returns c = let a = c .before .before .before .args in
     judged-refused (a .state) (a .«record») (a .left) _ (c .before .before .check-record .ensures) (c .before .if1 .taken) _ (c .refuse .ensures)
 
-enum-known-record : tie.Need-enum-known-record
-enum-known-record c = search needs
-
 after-head-requires : tie.Need-after-head-requires
 after-head-requires c κs = let a = c .before .before .before .before .before .args in
     head-fits (a .state) (a .«record») (a .left) _ (c .before .before .before .before .check-record .ensures) (c .before .before .before .if1 .left) _ (c .before .«record» .given .1) (c .before .before .before .before .before .pre)
-
-enum-known-record-2 : tie.Need-enum-known-record-2
-enum-known-record-2 c = search needs
 
 after-task-requires : tie.Need-after-task-requires
 after-task-requires c κs = let a = c .before .before .before .before .before .args in
@@ -31,15 +19,6 @@ after-task-requires c κs = let a = c .before .before .before .before .before .a
 
 enum-told : tie.Need-enum-told
 enum-told c = search needs
-
-refuse-requires-2 : tie.Need-refuse-requires-2
-refuse-requires-2 c κs = search needs
-
-enum-told-2 : tie.Need-enum-told-2
-enum-told-2 c = search needs
-
-refuse-requires-3 : tie.Need-refuse-requires-3
-refuse-requires-3 c κs = search needs
 
 returns-2 : tie.Need-returns-2
 unfolding after ended
@@ -65,17 +44,17 @@ pub judge-spec : {M : Type 1} → statement M
 judge-spec =
     tie.close
     (tie.spec
-    check-record-requires
-    refuse-requires
+    (λ c κs. search needs)
+    (λ c κs. search needs)
     returns
-    enum-known-record
+    (λ c. search needs)
     after-head-requires
-    enum-known-record-2
+    (λ c. search needs)
     after-task-requires
     enum-told
-    refuse-requires-2
-    enum-told-2
-    refuse-requires-3
+    (λ c κs. search needs)
+    (λ c. search needs)
+    (λ c κs. search needs)
     returns-2
     returns-3
     returns-4

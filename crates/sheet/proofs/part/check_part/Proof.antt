@@ -6,12 +6,9 @@ use borrow.Author.Needs.{needs}
 use Rattle.sheet.proofs.part.check_part.Statement.{statement}
 use Rattle.sheet.proofs.part.check_part.Tie as tie
 
-locate-requires : tie.Need-locate-requires
-locate-requires c κs = search needs
-
 returns : tie.Need-returns
 unfolding located
 returns c = ap (λ (l : Located). l .checked) (c .before .locate .ensures)
 
 pub check-part-spec : {M : Type 1} → statement M
-check-part-spec = tie.close (tie.spec locate-requires returns)
+check-part-spec = tie.close (tie.spec (λ c κs. search needs) returns)

@@ -16,9 +16,6 @@ unfolding located
 found c = let a = c .before .before .args in
     rw (c .locate .ensures) (span-order (a .sheet .now) (a .place), span-within (a .sheet .now) (a .place))
 
-locate-requires : tie.Need-locate-requires
-locate-requires c κs = search needs
-
 sub-result : tie.Need-sub-result
 sub-result c = found (c .before) .0
 
@@ -35,4 +32,4 @@ returns c = let s = c .before .before .before .before .args .sheet .now in
 
 pub component-part-spec : {M : Type 1} → statement M
 component-part-spec =
-    tie.close (tie.spec locate-requires sub-result part-result-start part-result-end returns)
+    tie.close (tie.spec (λ c κs. search needs) sub-result part-result-start part-result-end returns)

@@ -11,12 +11,6 @@ few : (c : tie.After-edges) → c .before .before .before .before .before .args 
 few c = let a = c .before .before .before .before .before .args in
     place-few (a .sheet .now) (a .place) _ _ (c .before .before .before .contents-of .ensures) (c .before .before .choose .ensures) (c .before .if1 .left)
 
-contents-of-requires : tie.Need-contents-of-requires
-contents-of-requires c κs = search needs
-
-choose-requires : tie.Need-choose-requires
-choose-requires c κs = search needs
-
 returns : tie.Need-returns
 returns c = let a = c .before .before .before .before .args in
     located-nowhere (a .sheet .now) (a .place) _ _ (c .before .before .contents-of .ensures) (c .before .choose .ensures) (c .if1 .taken)
@@ -44,8 +38,8 @@ pub locate-spec : {M : Type 1} → statement M
 locate-spec =
     tie.close
     (tie.spec
-    contents-of-requires
-    choose-requires
+    (λ c κs. search needs)
+    (λ c κs. search needs)
     returns
     mul-from
     array-read-from

@@ -5,18 +5,6 @@ use borrow.Author.Needs.{needs}
 use Rattle.sheet.proofs.walk.step.Statement.{statement}
 use Rattle.sheet.proofs.walk.step.Tie as tie
 
-sub-rest : tie.Need-sub-rest
-sub-rest c = search needs
-
-part-rest-start : tie.Need-part-rest-start
-part-rest-start c = search needs
-
-part-rest-end : tie.Need-part-rest-end
-part-rest-end c = search needs
-
-record-of-requires : tie.Need-record-of-requires
-record-of-requires c κs = search needs
-
 judge-requires : tie.Need-judge-requires
 judge-requires c κs = let a = c .before .before .before .args in
     room-for (a .sheet .now) (a .state .place) (c .record-of .result) (c .before .before .before .pre .0) (c .before .before .before .pre .1) (c .record-of .ensures)
@@ -28,4 +16,4 @@ returns c = let a = c .before .before .before .before .args in
 pub step-spec : {M : Type 1} → statement M
 step-spec =
     tie.close
-    (tie.spec sub-rest part-rest-start part-rest-end record-of-requires judge-requires returns)
+    (tie.spec (λ c. search needs) (λ c. search needs) (λ c. search needs) (λ c κs. search needs) judge-requires returns)

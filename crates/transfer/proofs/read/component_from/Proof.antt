@@ -5,30 +5,12 @@ use borrow.Author.Needs.{needs}
 use Rattle.transfer.proofs.read.component_from.Statement.{statement}
 use Rattle.transfer.proofs.read.component_from.Tie as tie
 
-enum-known-record : tie.Need-enum-known-record
-enum-known-record c = search needs
-
 component-with-requires : tie.Need-component-with-requires
 unfolding sizeOf
 component-with-requires c κs = rw (c .before .«record» .given .1) at (c .before .before .before .before .pre)
 
 enum-told : tie.Need-enum-told
 enum-told c = search needs
-
-refused-requires : tie.Need-refused-requires
-refused-requires c κs = search needs
-
-enum-told-2 : tie.Need-enum-told-2
-enum-told-2 c = search needs
-
-refused-requires-2 : tie.Need-refused-requires-2
-refused-requires-2 c κs = search needs
-
-enum-told-3 : tie.Need-enum-told-3
-enum-told-3 c = search needs
-
-refused-requires-3 : tie.Need-refused-requires-3
-refused-requires-3 c κs = search needs
 
 returns : tie.Need-returns
 unfolding componentFrom
@@ -50,14 +32,14 @@ pub component-from-spec : {M : Type 1} → statement M
 component-from-spec =
     tie.close
     (tie.spec
-    enum-known-record
+    (λ c. search needs)
     component-with-requires
     enum-told
-    refused-requires
-    enum-told-2
-    refused-requires-2
-    enum-told-3
-    refused-requires-3
+    (λ c κs. search needs)
+    (λ c. search needs)
+    (λ c κs. search needs)
+    (λ c. search needs)
+    (λ c κs. search needs)
     returns
     returns-2
     returns-3

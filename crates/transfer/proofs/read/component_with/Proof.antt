@@ -4,18 +4,12 @@ use borrow.Author.Needs.{needs}
 use Rattle.transfer.proofs.read.component_with.Statement.{statement}
 use Rattle.transfer.proofs.read.component_with.Tie as tie
 
-size-of-requires : tie.Need-size-of-requires
-size-of-requires c κs = search needs
-
 read-tasks-requires : tie.Need-read-tasks-requires
 read-tasks-requires c κs = rw (c .size-of .ensures) (c .before .before .pre)
-
-with-head-requires : tie.Need-with-head-requires
-with-head-requires c κs = search needs
 
 returns : tie.Need-returns
 unfolding componentFrom withHead
 returns c = rw (c .with-head .ensures, c .before .read-tasks .ensures, c .before .before .size-of .ensures)
 
 pub component-with-spec : {M : Type 1} → statement M
-component-with-spec = tie.close (tie.spec size-of-requires read-tasks-requires with-head-requires returns)
+component-with-spec = tie.close (tie.spec (λ c κs. search needs) read-tasks-requires (λ c κs. search needs) returns)

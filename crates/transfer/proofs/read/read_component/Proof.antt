@@ -27,12 +27,6 @@ span-is : (c : tie.After-locate) → c .locate .result .span ≡ spanOf (c .befo
 unfolding located
 span-is c = ap (λ (l : Located). l .span) (c .locate .ensures)
 
-locate-requires : tie.Need-locate-requires
-locate-requires c κs = search needs
-
-refused-requires : tie.Need-refused-requires
-refused-requires c κs = search needs
-
 returns : tie.Need-returns
 unfolding reading
 returns c = rw (← checked-is (c .before .before .before), ne-eqb _ _ (c .before .if1 .taken), c .refused .ensures)
@@ -46,9 +40,6 @@ part-read-part-start c = let f = found (c .before .before .before) in omega arit
 part-read-part-end : tie.Need-part-read-part-end
 part-read-part-end c = let f = found (c .before .before .before) in omega arith
 
-read-part-requires : tie.Need-read-part-requires
-read-part-requires c κs = search needs
-
 returns-2 : tie.Need-returns-2
 unfolding reading partOf
 returns-2 c = rw (← span-is (c .before .before .before .before .before), ← checked-is (c .before .before .before .before .before), eq-eqb _ _ (c .before .before .before .if1 .left), c .read-part .ensures)
@@ -57,11 +48,11 @@ pub read-component-spec : {M : Type 1} → statement M
 read-component-spec =
     tie.close
     (tie.spec
-    locate-requires
-    refused-requires
+    (λ c κs. search needs)
+    (λ c κs. search needs)
     returns
     sub-read-part
     part-read-part-start
     part-read-part-end
-    read-part-requires
+    (λ c κs. search needs)
     returns-2)

@@ -4,9 +4,6 @@ use borrow.Author.Needs.{needs}
 use Rattle.transfer.proofs.read.read_part.Statement.{statement}
 use Rattle.transfer.proofs.read.read_part.Tie as tie
 
-record-of-requires : tie.Need-record-of-requires
-record-of-requires c κs = search needs
-
 component-from-requires : tie.Need-component-from-requires
 component-from-requires c κs = rw (c .record-of .ensures) (size-within (c .before .before .args .part .now))
 
@@ -14,4 +11,4 @@ returns : tie.Need-returns
 returns c = rw (← c .before .record-of .ensures) (c .component-from .ensures)
 
 pub read-part-spec : {M : Type 1} → statement M
-read-part-spec = tie.close (tie.spec record-of-requires component-from-requires returns)
+read-part-spec = tie.close (tie.spec (λ c κs. search needs) component-from-requires returns)

@@ -18,29 +18,11 @@ no-tasks-requires c κs = tt
 loop-holds : tie.Need-loop-holds Inv-loop μ-loop
 loop-holds c = let a = c .before .before .args in taking-none (a .part .now) (a .start) (c .no-tasks .result) (c .no-tasks .ensures) (c .before .before .pre)
 
-sub-record-of : tie.Need-sub-record-of Inv-loop μ-loop
-sub-record-of c = omega arith
-
-part-record-of-start : tie.Need-part-record-of-start Inv-loop μ-loop
-part-record-of-start c = omega arith
-
-part-record-of-end : tie.Need-part-record-of-end Inv-loop μ-loop
-part-record-of-end c = search needs
-
 record-of-requires : tie.Need-record-of-requires Inv-loop μ-loop
 record-of-requires c κs = tt
 
-enum-known-record : tie.Need-enum-known-record Inv-loop μ-loop
-enum-known-record c = search needs
-
 enum-told : tie.Need-enum-told Inv-loop μ-loop
 enum-told c = search needs
-
-enum-told-2 : tie.Need-enum-told-2 Inv-loop μ-loop
-enum-told-2 c = search needs
-
-enum-told-3 : tie.Need-enum-told-3 Inv-loop μ-loop
-enum-told-3 c = search needs
 
 -- any other record ends the tasks
 returns : tie.Need-returns Inv-loop μ-loop
@@ -70,12 +52,6 @@ add-place c = let a = c .before .before .before .before .before .before .before 
     let h = room-here (a .part .now) (a .start) (l .table) (l .place) _ _ _ (c .before .before .before .before .before .record-of .ensures) (c .before .before .before .«record» .given .1) (c .size-of .ensures) (l .inv .here) in
     omega arith
 
-sub-left : tie.Need-sub-left Inv-loop μ-loop
-sub-left c = omega arith
-
-loop-less : tie.Need-loop-less Inv-loop μ-loop
-loop-less c = omega arith
-
 loop-again : tie.Need-loop-again Inv-loop μ-loop
 loop-again c = let a = c .before .before .before .before .before .before .before .before .before .before .before .args in
     let l = c .before .before .before .before .before .before .before .before .loop in
@@ -94,21 +70,21 @@ read-tasks-spec =
     μ-loop
     no-tasks-requires
     loop-holds
-    sub-record-of
-    part-record-of-start
-    part-record-of-end
+    (λ c. omega arith)
+    (λ c. omega arith)
+    (λ c. search needs)
     record-of-requires
-    enum-known-record
+    (λ c. search needs)
     enum-told
     returns
-    enum-told-2
+    (λ c. search needs)
     returns-2
-    enum-told-3
+    (λ c. search needs)
     returns-3
     append-requires
     size-of-requires
     add-place
-    sub-left
-    loop-less
+    (λ c. omega arith)
+    (λ c. omega arith)
     loop-again
     returns-4)

@@ -7,21 +7,6 @@ use borrow.Author.Needs.{needs}
 use Rattle.transfer.proofs.reply.write_checked.Statement.{statement}
 use Rattle.transfer.proofs.reply.write_checked.Tie as tie
 
-cast-number : tie.Need-cast-number
-cast-number c = search needs
-
-cast-write-numbers : tie.Need-cast-write-numbers
-cast-write-numbers c = search needs
-
-cast-write-numbers-2 : tie.Need-cast-write-numbers-2
-cast-write-numbers-2 c = search needs
-
-write-numbers-requires : tie.Need-write-numbers-requires
-write-numbers-requires c κs = search needs
-
-same-length : tie.Need-same-length
-same-length c = search needs
-
 returns : tie.Need-returns
 unfolding checkedBytes numbersBytes encode
 returns c = let a = c .before .before .before .before .before .before .before .before .args .checked in
@@ -31,9 +16,9 @@ pub write-checked-spec : {M : Type 1} → statement M
 write-checked-spec =
     tie.close
     (tie.spec
-    cast-number
-    cast-write-numbers
-    cast-write-numbers-2
-    write-numbers-requires
-    same-length
+    (λ c. search needs)
+    (λ c. search needs)
+    (λ c. search needs)
+    (λ c κs. search needs)
+    (λ c. search needs)
     returns)

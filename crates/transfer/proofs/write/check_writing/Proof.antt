@@ -11,18 +11,12 @@ use borrow.Author.Needs.{needs}
 use Rattle.transfer.proofs.write.check_writing.Statement.{statement}
 use Rattle.transfer.proofs.write.check_writing.Tie as tie
 
-check-ranges-requires : tie.Need-check-ranges-requires
-check-ranges-requires c κs = search needs
-
 returns : tie.Need-returns
 unfolding writingRefusal
 returns c = rw (← c .before .check-ranges .ensures, ne-eqb _ _ (c .if1 .taken))
 
 component-size-requires : tie.Need-component-size-requires
 component-size-requires c κs = in-range (c .before .before .args .component) (sym (c .before .check-ranges .ensures) ∙ c .if1 .left) .count
-
-check-room-requires : tie.Need-check-room-requires
-check-room-requires c κs = search needs
 
 returns-2 : tie.Need-returns-2
 unfolding writingRefusal
@@ -36,4 +30,4 @@ returns-2 c = let a = c .before .before .before .before .args in
 pub check-writing-spec : {M : Type 1} → statement M
 check-writing-spec =
     tie.close
-    (tie.spec check-ranges-requires returns component-size-requires check-room-requires returns-2)
+    (tie.spec (λ c κs. search needs) returns component-size-requires (λ c κs. search needs) returns-2)

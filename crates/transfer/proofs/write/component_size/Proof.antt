@@ -8,15 +8,6 @@ use borrow.Author.Needs.{needs}
 use Rattle.transfer.proofs.write.component_size.Statement.{statement}
 use Rattle.transfer.proofs.write.component_size.Tie as tie
 
-head-of-requires : tie.Need-head-of-requires
-head-of-requires c κs = search needs
-
-size-of-requires : tie.Need-size-of-requires
-size-of-requires c κs = search needs
-
-mul-result : tie.Need-mul-result
-mul-result c = search needs
-
 -- the head's size
 size : (c : tie.After-size-of) → c .size-of .result ≡ headSize (c .before .before .before .args .component .capacity)
 unfolding sizeOf
@@ -30,4 +21,4 @@ returns c = rw (size c)
 
 pub component-size-spec : {M : Type 1} → statement M
 component-size-spec =
-    tie.close (tie.spec head-of-requires size-of-requires mul-result add-result returns)
+    tie.close (tie.spec (λ c κs. search needs) (λ c κs. search needs) (λ c. search needs) add-result returns)

@@ -28,12 +28,6 @@ free c =
     let full : length (a .component .table .tasks) ≡ 64 = search (needs, length-mapped) in
     record { count = few; size = component-length (a .component) (omega arith); fits = w .fits; head = most-head (a .component .capacity) }
 
-head-of-requires : tie.Need-head-of-requires
-head-of-requires c κs = search needs
-
-write-record-requires : tie.Need-write-record-requires
-write-record-requires c κs = search needs
-
 write-tasks-requires : tie.Need-write-tasks-requires
 unfolding recordBytes
 write-tasks-requires c κs = let s = c .before .before .before .before .before .before .before .before in
@@ -44,9 +38,6 @@ write-tasks-requires c κs = let s = c .before .before .before .before .before .
     let p = head-place (a .buffer .now) (a .at) (a .component) (h .fits) (r .result) (e .0) in
     let n = head-long (a .buffer .now) (a .at) (a .component) (h .fits) (r .last .0) (e .1) in
     (h .count, omega (arith, p, n, h .fits, h .size))
-
-same-length : tie.Need-same-length
-same-length c = search needs
 
 returns : tie.Need-returns
 unfolding recordBytes
@@ -63,4 +54,4 @@ returns c = let d = c .before .before .before in
 pub store-spec : {M : Type 1} → statement M
 store-spec =
     tie.close
-    (tie.spec head-of-requires write-record-requires write-tasks-requires same-length returns)
+    (tie.spec (λ c κs. search needs) (λ c κs. search needs) write-tasks-requires (λ c. search needs) returns)

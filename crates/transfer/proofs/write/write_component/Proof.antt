@@ -7,18 +7,9 @@ use borrow.Author.Needs.{needs}
 use Rattle.transfer.proofs.write.write_component.Statement.{statement}
 use Rattle.transfer.proofs.write.write_component.Tie as tie
 
-check-writing-requires : tie.Need-check-writing-requires
-check-writing-requires c κs = search needs
-
 returns : tie.Need-returns
 unfolding written buffered
 returns c = rw (← c .before .check-writing .ensures, ne-eqb _ _ (c .if1 .taken)) (refl, refl)
-
-store-requires : tie.Need-store-requires
-store-requires c κs = search needs
-
-same-length : tie.Need-same-length
-same-length c = search needs
 
 returns-2 : tie.Need-returns-2
 unfolding written buffered
@@ -27,4 +18,4 @@ returns-2 c = let z = sym (c .before .before .before .before .before .check-writ
 
 pub write-component-spec : {M : Type 1} → statement M
 write-component-spec =
-    tie.close (tie.spec check-writing-requires returns store-requires same-length returns-2)
+    tie.close (tie.spec (λ c κs. search needs) returns (λ c κs. search needs) (λ c. search needs) returns-2)

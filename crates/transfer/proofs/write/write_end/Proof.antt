@@ -12,18 +12,9 @@ returns : tie.Need-returns
 unfolding endRefusal written buffered
 returns c = rw (lt-ltb _ _ (c .if1 .taken)) (refl, refl)
 
-cast-t7 : tie.Need-cast-t7
-cast-t7 c = search needs
-
-write-record-requires : tie.Need-write-record-requires
-write-record-requires c κs = search needs
-
-same-length : tie.Need-same-length
-same-length c = search needs
-
 returns-2 : tie.Need-returns-2
 unfolding endRefusal recordBytes
 returns-2 c = rw (le-ltb _ _ (c .before .before .before .before .if1 .left)) (c .before .before .write-record .ensures)
 
 pub write-end-spec : {M : Type 1} → statement M
-write-end-spec = tie.close (tie.spec returns cast-t7 write-record-requires same-length returns-2)
+write-end-spec = tie.close (tie.spec returns (λ c. search needs) (λ c κs. search needs) (λ c. search needs) returns-2)

@@ -28,21 +28,6 @@ loop-holds : tie.Need-loop-holds Inv-loop μ-loop
 loop-holds c = let a = c .before .before .args in
     storing-none (a .buffer .now) (a .at) (a .table .count) (a .table .tasks) (room (c .before .before))
 
-mul-t12 : tie.Need-mul-t12 Inv-loop μ-loop
-mul-t12 c = omega arith
-
-array-copy-out-t15 : tie.Need-array-copy-out-t15 Inv-loop μ-loop
-array-copy-out-t15 c = omega arith
-
-write-record-requires : tie.Need-write-record-requires Inv-loop μ-loop
-write-record-requires c κs = search needs
-
-add-i : tie.Need-add-i Inv-loop μ-loop
-add-i c = omega arith
-
-loop-less : tie.Need-loop-less Inv-loop μ-loop
-loop-less c = omega arith
-
 loop-again : tie.Need-loop-again Inv-loop μ-loop
 loop-again c = let a = c .before .before .before .before .before .before .before .before .before .args in let l = c .before .before .before .before .before .before .loop in
     let e = c .before .before .write-record .ensures in
@@ -63,11 +48,11 @@ write-tasks-spec =
     Inv-loop
     μ-loop
     loop-holds
-    mul-t12
-    array-copy-out-t15
-    write-record-requires
-    add-i
-    loop-less
+    (λ c. omega arith)
+    (λ c. omega arith)
+    (λ c κs. search needs)
+    (λ c. omega arith)
+    (λ c. omega arith)
     loop-again
     same-length
     returns)
