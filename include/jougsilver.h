@@ -20,12 +20,13 @@
  * host's own code and not proved.
  *
  * Stack and time, measured by tests/outside/worst.c (`make measure`) and not proved. On a thread whose stack was filled with
- * one byte beforehand no call touched more than 7,975 bytes of it; in the compiled code the frames along the deepest chain of
- * calls sum to 7,944, and no function calls itself. JOUGSILVER_STACK is about twice that. The longest call known is an asked
- * component of 64 tasks with a common period of 1,048,576 and a deadline at every instant, whatever else the sheet holds: 140 to
- * 290 ms of processor time in some 40 runs on a virtual machine (Intel Xeon, x86-64, 2.1 GHz) that was busy with other
- * work; stated instead of asked, 80 to 125 ms. To check a full sheet of 256 components took 0.05 ms. Time grows with the
- * common period and the number of tasks, hardly with the sheet.
+ * one byte beforehand no call touched more than 11,847 bytes of it, and 14,039 the first call of a program, which has the C
+ * library's linker resolve memcpy on the way; in the compiled code the frames along the deepest chain of calls sum to 11,808
+ * (8,632 of jougsilver_judge, 3,160 of the margin's scan, and the addresses to return to), and no function calls itself.
+ * JOUGSILVER_STACK is more than twice that. The longest call known is an asked component of 64 tasks with a common period of
+ * 1,048,576 and a deadline at every instant, whatever else the sheet holds: 140 to 300 ms of processor time in some 50 runs
+ * on a virtual machine (Intel Xeon, x86-64, 2.1 GHz); stated instead of asked, 80 to 125 ms. To check a full sheet of 256
+ * components took 0.05 ms. Time grows with the common period and the number of tasks, hardly with the sheet.
  */
 #ifndef JOUGSILVER_H
 #define JOUGSILVER_H
@@ -45,7 +46,7 @@ extern "C" {
 #define JOUGSILVER_VERSION "0.1.0"
 
 /* Bytes of stack that are enough for any call, as measured. */
-#define JOUGSILVER_STACK 16384
+#define JOUGSILVER_STACK 32768
 
 /* The most bytes that a sheet may have. */
 #define JOUGSILVER_SHEET_LENGTH 65536
