@@ -1,6 +1,7 @@
 -- Bytes at the front of a row, byte by byte and as a list.
 use Prim.Native.Nat.{ℕ, _+_, _≤_, _<_}
 use mathlib.Core.Path.{_≡_, sym, _∙_}
+use mathlib.Core.Bool.{Bool, true, false}
 use mathlib.Core.List.{List}
 use native.Mathlib.Omega.{arith}
 use lib.ListN.{length, getD, take, drop, length-drop}
@@ -17,3 +18,7 @@ front-take bytes to from count h g f =
     (λ k l.
     let b : k < count = rw (length-take-le count to h) at l in
     getD-take count to k 0 b ∙ f k b ∙ sym (getD-take count (drop from bytes) k 0 b ∙ getD-drop from bytes k 0))
+
+-- of an input that is closed, what holds of an open one is no question
+pub closed : {b : Bool} (n m : ℕ) → b ≡ true → b ≡ false → n < m
+closed n m p q = let z : _≡_ {A = ℕ} 0 1 = cc in absurd (omega arith)

@@ -24,6 +24,13 @@ pub record Taken (held : Held) (place : ℕ) (r : Held) : Type 0 where
   pub seen : place < held .end → r .seen ≡ place + 1
   pub end : r .end ≡ held .end
 
+-- nothing is held, and the input is open
+pub record Unread (r : Held) : Type 0 where
+  pub start : r .start ≡ 0
+  pub seen : r .seen ≡ 0
+  pub end : r .end ≡ 0
+  pub unclosed : r .open ≡ true
+
 -- nothing more is read, and nothing held is left
 pub record Stopped (place : ℕ) (r : Held) : Type 0 where
   pub start : r .start ≡ place
@@ -31,11 +38,12 @@ pub record Stopped (place : ℕ) (r : Held) : Type 0 where
   pub end : r .end ≡ place
   pub closed : r .open ≡ false
 
--- the bytes held stay where they are at the front, and what was read is behind them
+-- the bytes held stay where they are at the front, and what was read is behind them; the input stays open only where something was
 pub record Behind (row : List ℕ) (held : ℕ) (after : List ℕ) (r : Held) : Type 0 where
   pub stay : take held after ≡ take held row
   pub seen : r .seen ≡ held
   pub more : held ≤ r .end
+  pub brought : r .open ≡ true → r .seen < r .end
   pub front : r .open ≡ true → r .start ≡ 0
 
 -- a turn that read: the bytes held, without the lines that were taken, stand at the front, and what was read is behind them
@@ -43,4 +51,5 @@ pub record Refilled (row : List ℕ) (held : Held) (after : List ℕ) (r : Held)
   pub kept : held .start ≤ held .end → held .end ≤ length row → take (held .end - held .start) after ≡ take (held .end - held .start) (drop (held .start) row)
   pub seen : held .start ≤ held .end → held .end ≤ length row → r .seen ≡ held .end - held .start
   pub more : r .seen ≤ r .end
+  pub brought : r .open ≡ true → r .seen < r .end
   pub front : r .open ≡ true → r .start ≡ 0

@@ -1,7 +1,7 @@
 // Lines of standard input, as they come: a read may end anywhere, and a line is answered only once it is whole.
 use libc::STDERR_FILENO;
 use libc::STDIN_FILENO;
-ghost use Rattle.lines.specs.Lines.{Behind, Kept, LineEnd, Refilled, Stopped, Taken};
+ghost use Rattle.lines.specs.Lines.{Behind, Kept, LineEnd, Refilled, Stopped, Taken, Unread};
 
 // What is held of the input in a row: the lines that are taken end at `start`, no line ends from there to `seen`, and the row
 // holds the bytes up to `end`. Once it is not open, nothing more is read.
@@ -13,7 +13,9 @@ pub struct Held {
 }
 
 // Nothing is read yet.
-pub fn nothing() -> Held {
+pub fn nothing() -> Held
+    ensures { λ r. ⌜ Unread r ⌝ }
+{
     Held {
         start: 0,
         seen: 0,
