@@ -20,13 +20,15 @@
  * host's own code and not proved.
  *
  * Stack and time, measured by tests/outside/worst.c (`make measure`) and not proved. On a thread whose stack was filled with
- * one byte beforehand no call touched more than 11,847 bytes of it, and 14,039 the first call of a program, which has the C
- * library's linker resolve memcpy on the way; in the compiled code the frames along the deepest chain of calls sum to 11,808
- * (8,632 of jougsilver_judge, 3,160 of the margin's scan, and the addresses to return to), and no function calls itself.
- * JOUGSILVER_STACK is more than twice that. The longest call known is an asked component of 64 tasks with a common period of
- * 1,048,576 and a deadline at every instant, whatever else the sheet holds: 140 to 300 ms of processor time in some 50 runs
- * on a virtual machine (Intel Xeon, x86-64, 2.1 GHz); stated instead of asked, 80 to 125 ms. To check a full sheet of 256
- * components took 0.05 ms. Time grows with the common period and the number of tasks, hardly with the sheet.
+ * one byte beforehand no call touched more than 25,319 bytes of it, and 28,503 the first call of a program, which has the C
+ * library's linker resolve memcpy on the way; jougsilver_judge_all touched 21,143 and jougsilver_check 12,711, whatever the
+ * sheet. JOUGSILVER_STACK is more than twice that. The longest judgement of one component known is an asked one of 64 tasks
+ * with a common period of 1,048,576 and a deadline at every instant: 180 to 300 ms of processor time on a virtual machine
+ * (Intel Xeon, x86-64, 2.5 GHz); stated instead of asked, 130 to 185 ms. To judge a parent, jougsilver_judge judges all that
+ * lives inside it first: the top of a chain of 256 components at the large end took 3.6 s, and jougsilver_judge_all, which
+ * judges each component of a sheet just once, 2.9 to 4.7 s for that sheet. 63 components of that longest kind, as many as a
+ * sheet holds, took it 17 s. To check a full sheet of 256 components took 0.05 ms. Time grows with the common periods and the
+ * number of tasks, hardly with the sheet.
  */
 #ifndef JOUGSILVER_H
 #define JOUGSILVER_H
@@ -39,20 +41,22 @@ extern "C" {
 #endif
 
 /* Below 1.0.0 a new minor version may bring new refusal numbers and new codes of a reply; take those that you don't know as
-   neither accepted nor short. A patch changes no answer. */
+   neither accepted nor short. A patch changes no answer. 0.2.0 brought components inside components: jougsilver_judge_all,
+   code 3 and refusal 16. */
 #define JOUGSILVER_VERSION_MAJOR 0
-#define JOUGSILVER_VERSION_MINOR 1
+#define JOUGSILVER_VERSION_MINOR 2
 #define JOUGSILVER_VERSION_PATCH 0
-#define JOUGSILVER_VERSION "0.1.0"
+#define JOUGSILVER_VERSION "0.2.0"
 
 /* Bytes of stack that are enough for any call, as measured. */
-#define JOUGSILVER_STACK 32768
+#define JOUGSILVER_STACK 65536
 
-/* The most bytes that a sheet may have. */
+/* The most bytes, and the most components, that a sheet may have. */
 #define JOUGSILVER_SHEET_LENGTH 65536
+#define JOUGSILVER_MOST_COMPONENTS 256
 
 /*
- * Refusal numbers. 0 is no refusal. The rules number 15 of them for all operations of the judge; 12 (a job list) and 13 (a
+ * Refusal numbers. 0 is no refusal. The rules number 16 of them for all operations of the judge; 12 (a job list) and 13 (a
  * supply trace) are of operations that take jobs and traces, and no call here is given either.
  */
 enum {
@@ -62,31 +66,35 @@ enum {
     JOUGSILVER_LENGTH = 3,        /* no record of that kind has that length */
     JOUGSILVER_NO_COMPONENT = 4,  /* a task comes before the first component */
     JOUGSILVER_NUMBER = 5,        /* component numbers don't rise */
-    JOUGSILVER_TASKS = 6,         /* a component has a 65th task */
+    JOUGSILVER_TASKS = 6,         /* a component has a 65th task, or a parent's tasks and children together are more than 64 */
     JOUGSILVER_COMPONENTS = 7,    /* there are over 256 components */
     JOUGSILVER_END = 8,           /* the end record counts wrong, or isn't the last thing there */
     JOUGSILVER_RANGE = 9,         /* a number is out of its range (RULES 2) */
     JOUGSILVER_LONG = 10,         /* the common period is over 1,048,576: too long to be judged exactly */
     JOUGSILVER_ROOM = 11,         /* the reply doesn't fit into the buffer from that place on */
     JOUGSILVER_SHEET = 14,        /* the sheet has over 65,536 bytes */
-    JOUGSILVER_PLACE = 15         /* the sheet has fewer components than that */
+    JOUGSILVER_PLACE = 15,        /* the sheet has fewer components than that */
+    JOUGSILVER_PAIR = 16          /* a pair breaks the rules of pairs (RULES 10), or a component or task stands behind a pair */
 };
 
 /* Codes of a reply. */
 enum {
     JOUGSILVER_ACCEPTED = 0,      /* the capacity is enough at every instant */
     JOUGSILVER_SHORT = 1,         /* it isn't: demand exceeds supply, first at the short instant */
-    JOUGSILVER_NONE = 2           /* asked, and not even the full deadline is enough */
+    JOUGSILVER_NONE = 2,          /* asked, and not even the full deadline is enough */
+    JOUGSILVER_WAITING = 3        /* some component inside it is not accepted: it has no verdict */
 };
 
 /* The length of a reply, in bytes. */
 #define JOUGSILVER_REPLY_LENGTH 24
 
 /*
- * Judges the component at `place` (0 is the first of the sheet) and writes the reply into `reply` from byte `at` on.
+ * Judges the component at `place` (0 is the first of the sheet) and writes the reply into `reply` from byte `at` on. A parent
+ * is judged with its whole workload: its own tasks, and the interface of each of its children as a task (RULES 7).
  *
- * Returns 0, or the refusal: that of the sheet (1 to 9 or 14), then 15 (no component at that place), then 10 (common period
- * too long), then 11 (`at` is past the buffer, or fewer than 24 bytes are left from there). A refusal writes nothing.
+ * Returns 0, or the refusal: that of the sheet (1 to 9, 14 or 16), then 15 (no component at that place), then 10 (common
+ * period too long; never for a component that waits), then 11 (`at` is past the buffer, or fewer than 24 bytes are left from
+ * there). A refusal writes nothing.
  *
  * The reply is 24 bytes, little-endian; every other byte of the buffer stays as it was:
  *
@@ -94,13 +102,13 @@ enum {
  *        0      2  length, 24
  *        2      2  kind, 16
  *        4      2  component number
- *        6      2  code: 0 accepted, 1 short, 2 none
+ *        6      2  code: 0 accepted, 1 short, 2 none, 3 waiting
  *        8      4  capacity: the stated one, or the smallest accepted one where it was asked
  *       12      4  first short instant (code 1), else 0
  *       16      4  margin, signed: least supply minus demand over the instants where demand steps up
  *       20      4  margin instant: the smallest instant with that margin; 0 says that there is no margin
  *
- * For code 2 the last four fields are 0.
+ * For codes 2 and 3 the last four fields are 0.
  */
 uint32_t jougsilver_judge(const uint8_t *sheet, size_t sheet_len, size_t place,
                           uint8_t *reply, size_t reply_len, size_t at);
@@ -123,6 +131,30 @@ uint32_t jougsilver_judge(const uint8_t *sheet, size_t sheet_len, size_t place,
 uint32_t jougsilver_check(const uint8_t *sheet, size_t sheet_len,
                           uint8_t *reply, size_t reply_len, size_t at);
 
+/* The length of one component's entry in the reply of jougsilver_judge_all, and of the whole reply for `count` components. */
+#define JOUGSILVER_ENTRY_LENGTH 36
+#define JOUGSILVER_ALL_LENGTH(count) (JOUGSILVER_CHECK_LENGTH + JOUGSILVER_ENTRY_LENGTH * (size_t)(count))
+
+/*
+ * Judges every component of a sheet in one pass, each once and before its parent, and writes all replies into `reply` from
+ * byte `at` on. A buffer of JOUGSILVER_ALL_LENGTH(JOUGSILVER_MOST_COMPONENTS) bytes has room for any sheet.
+ *
+ * Returns 0, or the refusal: that of the sheet (1 to 9, 14 or 16), then 11 (`at` is past the buffer, or fewer than
+ * JOUGSILVER_ALL_LENGTH(count) bytes are left from there, `count` being the sheet's components). A refusal writes nothing;
+ * jougsilver_check tells at which byte a sheet is refused. A common period that is too long refuses only its component.
+ *
+ * The reply begins with the 12 bytes that jougsilver_check writes, 0, 0 and the count of components. Then come as many
+ * entries of 36 bytes, in the sheet's order; every other byte of the buffer stays as it was:
+ *
+ *   offset  bytes  field
+ *        0      4  10 if the component's common period is too long, else 0
+ *        4      4  component number
+ *        8      4  the byte of the sheet where the component's record begins
+ *       12     24  its reply as jougsilver_judge writes it; all 0 if the common period is too long
+ */
+uint32_t jougsilver_judge_all(const uint8_t *sheet, size_t sheet_len,
+                              uint8_t *reply, size_t reply_len, size_t at);
+
 /* A judge's reply, field by field. */
 struct jougsilver_reply {
     uint16_t length;
@@ -140,6 +172,14 @@ struct jougsilver_checked {
     uint32_t refusal;
     uint32_t byte;
     uint32_t components;
+};
+
+/* One component's entry in the reply of jougsilver_judge_all, field by field; `reply` is all 0 where `refusal` isn't 0. */
+struct jougsilver_entry {
+    uint32_t refusal;
+    uint32_t number;
+    uint32_t byte;
+    struct jougsilver_reply reply;
 };
 
 /* The little-endian number of `width` bytes, 1 to 4. */
@@ -173,7 +213,7 @@ static inline struct jougsilver_reply jougsilver_decode_reply(const uint8_t *byt
     return reply;
 }
 
-/* The fields of the 12 bytes that jougsilver_check wrote. */
+/* The fields of the 12 bytes that jougsilver_check wrote, or of the first 12 that jougsilver_judge_all wrote. */
 static inline struct jougsilver_checked jougsilver_decode_check(const uint8_t *bytes)
 {
     struct jougsilver_checked checked;
@@ -181,6 +221,21 @@ static inline struct jougsilver_checked jougsilver_decode_check(const uint8_t *b
     checked.byte = jougsilver_number_at(bytes + 4, 4);
     checked.components = jougsilver_number_at(bytes + 8, 4);
     return checked;
+}
+
+/*
+ * The entry of the component at `place` (0 is the first of the sheet), from the bytes that jougsilver_judge_all wrote, the
+ * first 12 included. `place` is below the count of components that stands there.
+ */
+static inline struct jougsilver_entry jougsilver_decode_entry(const uint8_t *bytes, size_t place)
+{
+    struct jougsilver_entry entry;
+    bytes += JOUGSILVER_ALL_LENGTH(place);
+    entry.refusal = jougsilver_number_at(bytes, 4);
+    entry.number = jougsilver_number_at(bytes + 4, 4);
+    entry.byte = jougsilver_number_at(bytes + 8, 4);
+    entry.reply = jougsilver_decode_reply(bytes + 12);
+    return entry;
 }
 
 /* A refusal number in words; never null. */
@@ -193,7 +248,7 @@ static inline const char *jougsilver_refusal_text(uint32_t refusal)
     case JOUGSILVER_LENGTH: return "a record whose length is not its kind's";
     case JOUGSILVER_NO_COMPONENT: return "a task before any component";
     case JOUGSILVER_NUMBER: return "a component number that does not rise";
-    case JOUGSILVER_TASKS: return "more than 64 tasks in a component";
+    case JOUGSILVER_TASKS: return "more than 64 tasks and children in a component";
     case JOUGSILVER_COMPONENTS: return "more than 256 components";
     case JOUGSILVER_END: return "a wrong count in the end record, or bytes after it";
     case JOUGSILVER_RANGE: return "a number outside its range";
@@ -201,6 +256,7 @@ static inline const char *jougsilver_refusal_text(uint32_t refusal)
     case JOUGSILVER_ROOM: return "too little room for the reply";
     case JOUGSILVER_SHEET: return "more than 65,536 bytes";
     case JOUGSILVER_PLACE: return "no component at that place";
+    case JOUGSILVER_PAIR: return "a pair that breaks the rules of pairs, or a component or task after a pair";
     default: return "a refusal that this version doesn't know";
     }
 }
@@ -212,6 +268,7 @@ static inline const char *jougsilver_code_text(uint32_t code)
     case JOUGSILVER_ACCEPTED: return "accepted";
     case JOUGSILVER_SHORT: return "short";
     case JOUGSILVER_NONE: return "none";
+    case JOUGSILVER_WAITING: return "waiting";
     default: return "an answer that this version doesn't know";
     }
 }

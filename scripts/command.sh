@@ -126,11 +126,12 @@ meaning() { # NUMBER
     3) echo "a record whose length is not its kind's" ;;
     4) echo "a task before any component" ;;
     5) echo "a component number that does not rise" ;;
-    6) echo "more than 64 tasks in a component" ;;
+    6) echo "more than 64 tasks and children in a component" ;;
     7) echo "more than 256 components" ;;
     8) echo "a wrong count in the end record, or bytes after it" ;;
     9) echo "a number outside its range" ;;
     14) echo "more than 65,536 bytes" ;;
+    16) echo "a pair that breaks the rules of pairs, or a component or task after a pair" ;;
     *) echo "docs/RULES.md says when" ;;
     esac
 }
@@ -151,5 +152,5 @@ for_text="--text reads it as one, and so does a name that ends in .txt"
 # A sheet has bytes of value 0 in every record, a text has none.
 looks_like_text() {
     [ "$(tr -d '\000' <"$room/sheet" | wc -c)" -eq "$(wc -c <"$room/sheet")" ] &&
-        LC_ALL=C grep -a -q -E $'^(\xef\xbb\xbf)?[[:space:]]*(#|(component|task|end)[[:space:]])' -- "$room/sheet"
+        LC_ALL=C grep -a -q -E $'^(\xef\xbb\xbf)?[[:space:]]*(#|(component|task|pair|end)[[:space:]])' -- "$room/sheet"
 }

@@ -12,6 +12,7 @@ BEGIN {
 }
 { said[NR] = $0 }
 $1 == "component" { number = $2; asked = $3 == "asked" }
+$1 == "own" { own = $2; parent = 1 }
 $1 == "verdict" { verdict = $2 }
 $1 == "short" { short = $2 + 0 }
 $1 == "margin" { margin = $2 + 0; instant = $3 + 0 }
@@ -139,7 +140,7 @@ function legend() {
     text(64, 86, "start", "supply: the fewest units that any legal delivery gives", "")
     if (tasks) {
         swatch(440, 82, demand_colour, "", demand_thick)
-        text(480, 86, "start", "demand: the units that must be done by then", "")
+        text(480, 86, "start", parent ? "demand: the units due by then, of " workload() : "demand: the units that must be done by then", "")
     }
     if (capacity) {
         swatch(24, 102, line_colour, " stroke-dasharray=\"7 4\"", 1.5)
@@ -150,6 +151,7 @@ function legend() {
         text(742, 106, "start", "demand above supply", "")
     }
 }
+function workload() { return (own + 0 ? counted(own, "task") " and " : "") (tasks - own == 1 ? "1 child" : tasks - own " children") }
 function swatch(x, y, colour, dashes, thick) { stroke(x, y, x + 32, y, colour, thick, dashes) }
 
 # ---- a window

@@ -41,6 +41,14 @@ printf 'refused 1 0\n' >"$front/empty.listing"
 printf 'component 1 stated 6 2 4\n\n# late\ntask 8 9 7  # C above D\nend 1\n' >"$front/range.txt"
 printf 'refused 9 18\n' >"$front/range.listing"
 cp "$samples/five.sheet" "$samples/five.txt" "$samples/press.sheet" "$front"
+# components inside components: RULES 7 and 15
+nested() { printf 'component 1 stated 6 2 4\ntask 8 2 %s\ncomponent 2 stated 1 1 1\ntask 4 2 4\ncomponent 3 asked 3 3\ntask 1048576 1 1048576\n%send 3\n' "$@"; }
+nested 8 $'pair 1 2\n' >"$front/nested.txt"
+printf '1 accepted 2 0 8\n2 accepted 1 0 4\n3 long\nend 3\n' >"$front/nested.listing"
+nested 7 $'pair 1 2\npair 2 3\n' >"$front/waits.txt"
+printf '1 short 2 7 -1 7\n2 waiting\n3 waiting\nend 3\n' >"$front/waits.listing"
+printf 'component 1 stated 6 2 4\ntask 8 2 8\ncomponent 2 stated 1 1 1\ntask 4 2 4\npair 1 2\nend 2\n' >"$front/inside.txt"
+printf '1 accepted 2 0 8\n2 accepted 1 0 4\nend 2\n' >"$front/inside.listing"
 mkdir "$front/folder"
 
 # ---- statuses
@@ -48,6 +56,19 @@ check "status 0: a sheet without components" meets 0 "$front/none.listing" '' "$
 check "status 1: one component is short, one none" meets 1 "$front/five.listing" '' "$top/jougsilver" five.sheet
 check "status 1: no capacity is enough" meets 1 "$front/never.listing" '' "$top/jougsilver" never.txt
 check "status 1: a common period that is too long" meets 1 "$front/long.listing" '' "$top/jougsilver" long.txt
+check "status 0: a parent and its child are accepted" meets 0 "$front/inside.listing" '' "$top/jougsilver" inside.txt
+check "status 1: a component that is too long beside an accepted parent" meets 1 "$front/nested.listing" '' "$top/jougsilver" nested.txt
+check "status 1: a parent waits for its short child, and its own parent for it" meets 1 "$front/waits.listing" '' "$top/jougsilver" waits.txt
+host_waits() { # STATUS NAME
+    awk -f tests/panel.awk "$front/$2.listing" >"$front/table"
+    meets "$1" "$front/table" '' "$top/scripts/host" "$2.txt"
+}
+check "the C host tables an accepted parent" host_waits 0 inside
+check "the C host tables parents that wait" host_waits 1 waits
+check "the C host says who waits" grep -q -x ' *2  waiting for a child *-  *-  *-' "$front/out"
+check "status 3: no picture of a component that waits" meets 3 - '^picture: component 3 waits: ' "$top/jougsilver" --picture waits.txt 3
+parent_pictured() { "$top/jougsilver" --picture "$front/inside.txt" 2 >"$front/svg" && grep -q '>demand: the units due by then, of 1 task and 1 child<' "$front/svg"; }
+check "a parent's picture counts its children" parent_pictured
 check "status 2: an empty sheet" meets 2 "$front/empty.listing" '^jougsilver: empty.sheet: byte 0: refused 1 (' "$top/jougsilver" empty.sheet
 refused_table() {
     (cd "$front" && "$top/scripts/host" range.txt) >"$front/out" 2>"$front/err"
@@ -110,9 +131,12 @@ printing() { # STATUS OUTPUT PATTERN SCRIPT
 }
 no_answer='nothing was judged$'
 printf '1 accepted 2 0 8\nend 1\n' >"$front/whole"
-printf '1 accepted 2 0 8\n2 waiting 3\nend 2\n' >"$front/waiting"
+printf '1 short 2 8 -1 8\n2 waiting\nend 2\n' >"$front/waiting"
+printf '1 waiting\nend 1\n' >"$front/one.waiting"
 check "a whole listing is printed" printing 0 "$front/whole" '' 'printf "1 accepted 2 0 8\nend 1\n"'
-check "a waiting component is not accepted" printing 1 "$front/waiting" '' 'printf "1 accepted 2 0 8\n2 waiting 3\nend 2\n"'
+check "a waiting component is not accepted" printing 1 "$front/waiting" '' 'printf "1 short 2 8 -1 8\n2 waiting\nend 2\n"'
+check "nor is it alone" printing 1 "$front/one.waiting" '' 'printf "1 waiting\nend 1\n"'
+check "a waiting line that is not counted is no answer" printing 3 - "$no_answer" 'printf "1 waiting\nend 0\n"'
 check "a listing without its end is no answer" printing 3 - "$no_answer" 'printf "1 accepted 2 0 8\n"'
 check "a listing with a line too few is no answer" printing 3 - "$no_answer" 'printf "1 accepted 2 0 8\nend 2\n"'
 check "a listing with a line too many is no answer" printing 3 - "$no_answer" 'printf "1 accepted 2 0 8\nend 0\n"'
@@ -316,6 +340,36 @@ endless_bytes() { "$top/jougsilver" </dev/zero; }
 check "bytes without end are refused" meets 2 "$front/big.listing" '^jougsilver: standard input: byte 0: refused 14 (more than 65,536 bytes)$' endless_bytes
 endless_text() { yes '#' | "$top/sheet"; }
 check "a text without end is an error" meets 3 - '^sheet: standard input is longer than 16777216 bytes' endless_text
+# Pairs that the judge refuses lead back to their lines; a record after a pair to its own.
+refused_pair() { # REFUSAL PLACE LINE RECORD TEXT
+    printf '%s\n' "${@:5}" >"$front/pairs.txt"
+    echo "refused $1 $2" >"$front/pairs.listing"
+    meets 2 "$front/pairs.listing" "^jougsilver: pairs.txt:$3: refused $1 (.*): $4\$" "$top/jougsilver" pairs.txt
+}
+two=('component 1 stated 6 2 4' 'component 2 asked 6 4')
+check "a pair whose parent is not the greater" refused_pair 16 32 3 'pair 2 1' "${two[@]}" 'pair 2 1' 'end 2'
+check "a component inside itself" refused_pair 16 32 3 'pair 2 2' "${two[@]}" 'pair 2 2' 'end 2'
+check "a pair whose parent is not in the sheet" refused_pair 16 32 3 'pair 1 3' "${two[@]}" 'pair 1 3' 'end 2'
+check "a pair whose child is not in the sheet" refused_pair 16 32 3 'pair 0 2' "${two[@]}" 'pair 0 2' 'end 2'
+check "a second pair for a child" refused_pair 16 40 4 'pair 1 2' "${two[@]}" 'pair 1 2' 'pair 1 2' 'end 2'
+check "a pair before its parent's component" refused_pair 16 18 2 'pair 1 2' "${two[0]}" 'pair 1 2' "${two[1]}" 'end 2'
+check "a component after a pair" refused_pair 16 40 4 'component 3 asked 6 4' "${two[@]}" 'pair 1 2' 'component 3 asked 6 4' 'end 3'
+check "a task after a pair, out of range as it may be" refused_pair 16 40 4 'task 8 9 7' "${two[@]}" 'pair 1 2' 'task 8 9 7' 'end 2'
+check "an end that counts the pairs" refused_pair 8 40 4 'end 3' "${two[@]}" 'pair 1 2' 'end 3'
+mapfile -t full < <(printf 'component 1 stated 6 2 4\ncomponent 2 asked 6 4\n' && for _ in $(seq 1 64); do echo 'task 8 1 8'; done)
+# 18 + 14 + 64 · 16 bytes before the pair
+check "a child for whom its parent has no place" refused_pair 6 1056 67 'pair 1 2' "${full[@]}" 'pair 1 2' 'end 2'
+check "a refused pair is said in words" meets 2 "$front/pairs.listing" 'refused 6 (more than 64 tasks and children in a component)' "$top/jougsilver" pairs.txt
+printf 'refused 16 32\n' >"$front/pair.listing"
+printf 'component 1 stated 6 2 4\ncomponent 2 asked 6 4\npair 2 1\nend 2\n' >"$front/pair.txt"
+"$second" bytes <"$front/pair.txt" >"$front/pair.sheet"
+echo 'jougsilver: pair.sheet: byte 32: refused 16 (a pair that breaks the rules of pairs, or a component or task after a pair)' >"$front/pair.err"
+check "a refused pair of bytes names the byte" meets_exactly 2 "$front/pair.listing" "$front/pair.err" "$top/jougsilver" pair.sheet
+grep -v '^#' "$samples/packaging.txt" >"$front/packaging.text"
+check "./sheet -t gives pairs back" meets 0 "$front/packaging.text" '' "$top/sheet" -t "$samples/packaging.sheet"
+printf 'pair 1 2\ncomponent 1 asked 6 4\n' >"$front/first.txt"
+pair_first() { "$top/jougsilver" <first.txt; }
+check "a text that begins with a pair is seen to be one" meets 2 "$front/unknown.listing" "^jougsilver: standard input looks like a sheet's text: --text " pair_first
 for place in 0 17 18 33 34 39; do
     case $place in 0 | 17) line='1: component 1 stated 6 2 4' ;; 18 | 33) line='4: task 8 9 7' ;; *) line='5: end 1' ;; esac
     echo "$line" >"$front/line"
@@ -337,6 +391,10 @@ task 8 2
 component 2 given 6 4
 end 65536
 tusk 8 2 8
+pair 1
+pair 1 -2
+pair 70000 2
+pair 1 2 3
 end 1
 END
 wrong_lines() { # NAME
@@ -347,7 +405,11 @@ $1: wrong.txt:4: \`task 006 2 8\`: T is \`006\`, which has a zero in front
 $1: wrong.txt:5: \`task 8 2\`: task needs T C D: \`task T C D\`
 $1: wrong.txt:6: \`component 2 given 6 4\`: a component is \`component NUMBER stated Π Θ Δ\` or \`component NUMBER asked Π Δ\`
 $1: wrong.txt:7: \`end 65536\`: COUNT is \`65536\`, which is above 65535, the most that its 2 bytes hold
-$1: wrong.txt:8: \`tusk 8 2 8\`: no record begins with \`tusk\`; a line is \`component NUMBER stated Π Θ Δ\` or \`component NUMBER asked Π Δ\` or \`task T C D\` or \`end COUNT\`
+$1: wrong.txt:8: \`tusk 8 2 8\`: no record begins with \`tusk\`; a line is \`component NUMBER stated Π Θ Δ\` or \`component NUMBER asked Π Δ\` or \`task T C D\` or \`pair CHILD PARENT\` or \`end COUNT\`
+$1: wrong.txt:9: \`pair 1\`: pair needs CHILD PARENT: \`pair CHILD PARENT\`
+$1: wrong.txt:10: \`pair 1 -2\`: PARENT is \`-2\`, which is not a number of digits alone
+$1: wrong.txt:11: \`pair 70000 2\`: CHILD is \`70000\`, which is above 65535, the most that its 2 bytes hold
+$1: wrong.txt:12: \`pair 1 2 3\`: pair needs CHILD PARENT: \`pair CHILD PARENT\`
 END
 }
 for command in jougsilver sheet scripts/host; do
@@ -366,3 +428,24 @@ check "a sheet's bytes are no text" meets 3 - '^sheet: five.sheet: .*it is not a
 printf '\357\273\277# a mark\r\n\r\n\t# indented\r\ncomponent\t4  asked 6\v4 # why\r\n task 4 2 2#why\r\nend 1' >"$front/loose.txt"
 "$second" bytes <"$front/never.txt" >"$front/never.sheet"
 check "a byte-order mark, white space and comments are taken" meets 0 "$front/never.sheet" '' "$top/sheet" loose.txt
+
+# ---- what the pages show is so: the listings of the samples, and the bytes of the rules' nested components
+page_listing() { # NAME
+    awk -v command="examples/sheets/$1." '/^```/ { on = 0 } on { print } $1 == "$" && $2 == "./jougsilver" && index($3, command) == 1 { on = 1 }' \
+        examples/sheets/README.md >"$front/page" && "$second" list <"$samples/$1.sheet" >"$front/listed" && same "$front/listed" "$front/page"
+}
+for name in press packaging waiting; do check "examples/sheets/README.md has the listing of $name" page_listing "$name"; done
+# The bytes, as a call has them, of the block of bytes behind the line that begins so.
+rules_bytes() { # WORDS
+    awk -v words="$1" 'index($0, words) == 1 { on = 1; next } on && /^    / { gsub(/ /, ""); row = row $0; next } on && row { exit } END { print row }' docs/RULES.md
+}
+rules_nested() {
+    local row reply
+    row=$(rules_bytes 'Example, the two components of section 7 and their pair')
+    reply=$(rules_bytes 'Example: the two components of section 7 in their second form')
+    # the second form has D = 7 in its first task, whose last field is at byte 30
+    { printf '%s\n' "tree $row 0" "tree $row 1" "host_all ${row:0:60}07${row:62} 84 0" | "$second" answer; } >"$front/page"
+    printf '%s\n' 'ok 1 accepted 2 0 8' 'ok 2 accepted 1 0 4' "0 $reply" >"$front/listed"
+    same "$front/listed" "$front/page"
+}
+check "docs/RULES.md has the bytes of nested components and of their reply" rules_nested

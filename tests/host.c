@@ -1,4 +1,4 @@
-/* A host that answers `host` and `host_check` calls (docs/CALLS.md) through the exported calls, as a C program links them. */
+/* A host that answers `host`, `host_check` and `host_all` calls (docs/CALLS.md) through the exported calls, as a C program links them. */
 #include "../include/jougsilver.h"
 
 #include <stdio.h>
@@ -26,6 +26,13 @@ static size_t bytes_of(const char *word) {
 
 static size_t number(const char *word) { return strtoull(word, NULL, 10); }
 
+/* The call that a line names: 5 words for a component, 4 for the whole sheet. */
+static unsigned call(char *word[], int count, size_t bytes, size_t length) {
+    if (count == 5) return jougsilver_judge(sheet, bytes, number(word[2]), reply, length, number(word[4]));
+    if (strcmp(word[0], "host_all") == 0) return jougsilver_judge_all(sheet, bytes, reply, length, number(word[3]));
+    return jougsilver_check(sheet, bytes, reply, length, number(word[3]));
+}
+
 int main(void) {
     while (fgets(line, LINE, stdin) != NULL) {
         char *word[6] = {NULL};
@@ -34,10 +41,7 @@ int main(void) {
         size_t length = count == 5 ? number(word[3]) : count == 4 ? number(word[2]) : BUFFER + 1;
         if (length > BUFFER) return 2;
         memset(reply, FILLED, sizeof reply);
-        size_t bytes = bytes_of(word[1]);
-        unsigned refusal = count == 5 ? jougsilver_judge(sheet, bytes, number(word[2]), reply, length, number(word[4]))
-                                      : jougsilver_check(sheet, bytes, reply, length, number(word[3]));
-        printf("%u ", refusal);
+        printf("%u ", call(word, count, bytes_of(word[1]), length));
         if (length == 0) putchar('-');
         for (size_t i = 0; i < length; i++) printf("%02x", reply[i]);
         if (reply[length] != FILLED) printf(" written past the buffer");

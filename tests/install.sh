@@ -31,7 +31,7 @@ installed() {
     local file version
     make install PREFIX="$copy" || return
     for file in bin/jougsilver bin/jougsilver-sheet include/jougsilver.h lib/libjougsilver.a lib/pkgconfig/jougsilver.pc \
-        share/doc/jougsilver/RULES.md share/man/man1/jougsilver.1 share/man/man1/jougsilver-sheet.1 share/man/man3/jougsilver.3; do
+        share/doc/jougsilver/RULES.md share/man/man1/jougsilver.1 share/man/man1/jougsilver-sheet.1 share/man/man3/jougsilver.3 share/man/man3/jougsilver_judge_all.3; do
         [ -s "$copy/$file" ] || { echo "$file is not there"; return 1; }
     done
     ! grep -rlF -- "$root" "$copy" || return
@@ -77,7 +77,7 @@ outside_fresh() {
     for sheet in "$work"/sheets/*; do outside_verdicts "$sheet" || return; done
 }
 stack_is_enough() { run_abroad ./worst; }
-measured() { make measure RUNS=1 >"$work/made" && [ "$(grep -c '^\(judge\|check\), .* bytes of stack .* ms$' "$work/made")" -eq 6 ]; }
+measured() { make measure RUNS=1 >"$work/made" && [ "$(grep -c '^\(judge\|judge_all\|check\), .* bytes of stack .* ms$' "$work/made")" -eq 10 ]; }
 
 # ---- the installed commands, from another folder and with no rt on the PATH
 installed_command() { # NAME WORD...
@@ -114,10 +114,14 @@ statuses() {
     printf 'component 1 stated 6 2 4\ntask 8 2 7\nend 1\n' >"$work/short.txt"
     printf 'component 1 asked 6 4\ntask 4 2 2\nend 1\n' >"$work/none.txt"
     printf 'component 1 stated 3 1 1\ntask 1048576 1 1048576\nend 1\n' >"$work/long.txt"
+    printf 'component 1 stated 6 2 4\ntask 8 2 %s\ncomponent 2 stated 1 1 1\ntask 4 2 4\npair 1 2\nend 2\n' 8 >"$work/nested.txt"
+    printf 'component 1 stated 6 2 4\ntask 8 2 %s\ncomponent 2 stated 1 1 1\ntask 4 2 4\npair 1 2\nend 2\n' 7 >"$work/waiting.txt"
+    printf 'component 1 stated 6 2 4\npair 1 2\nend 1\n' >"$work/unpaired.txt"
     printf 'component 1 stated 6 2 4\ntask 8 2\nend 1\n' >"$work/wrong.txt"
     : >"$work/empty.sheet"
     ends 0 $'1 accepted 2 0 8\nend 1' "$work/accepted.txt" && ends 1 $'1 short 2 7 -1 7\nend 1' "$work/short.txt" && ends 1 $'1 none\nend 1' "$work/none.txt" &&
-        ends 1 $'1 long\nend 1' "$work/long.txt" && ends 2 'refused 1 0' "$work/empty.sheet" && ends 3 - "$work/wrong.txt" && ends 3 - "$work" &&
+        ends 1 $'1 long\nend 1' "$work/long.txt" && ends 0 $'1 accepted 2 0 8\n2 accepted 1 0 4\nend 2' "$work/nested.txt" &&
+        ends 1 $'1 short 2 7 -1 7\n2 waiting\nend 2' "$work/waiting.txt" && ends 2 'refused 16 18' "$work/unpaired.txt" && ends 2 'refused 1 0' "$work/empty.sheet" && ends 3 - "$work/wrong.txt" && ends 3 - "$work" &&
         ends 3 - --no-such-option && ends 3 - "$work/not there"
 }
 full_output() {
@@ -148,7 +152,7 @@ page_is_clean() { # PAGE
 }
 # Each refusal of a sheet, beside its number, is said in the same words by the header, the manual and the commands.
 refusals_agree() {
-    run_abroad ./helpers texts | awk '$1 > 0 && $1 < 10 || $1 == 14' >"$work/texts.txt" && [ "$(wc -l <"$work/texts.txt")" -eq 10 ] || return
+    run_abroad ./helpers texts | awk '$1 > 0 && $1 < 10 || $1 == 14 || $1 == 16' >"$work/texts.txt" && [ "$(wc -l <"$work/texts.txt")" -eq 11 ] || return
     sed -n '/^\.SH REFUSALS/,/^\.SH NOT/p' man/jougsilver.1 | awk '/^\.IP/ { number = $2; getline; print number, $0 }' >"$work/page.txt"
     sed -n 's/^ *\([0-9]*\)) echo "\(.*\)" ;;$/\1 \2/p' scripts/command.sh >"$work/command.txt"
     same "$work/texts.txt" "$work/page.txt" && same "$work/texts.txt" "$work/command.txt"
@@ -157,10 +161,19 @@ page_has_statuses() {
     local number
     for number in 0 1 2 3; do sed -n '/^\.SH EXIT/,/^\.SH TEXT/p' man/jougsilver.1 | grep -qx "\.B $number" || return; done
 }
-# The manual's example is a text, and the second program lists it as it stands there.
-page_example() {
-    sed -n '/^\$ cat/,/^\$ jougsilver /{/^\$/!p}' man/jougsilver.1 | "$second" bytes | "$second" list >"$work/second"
-    sed -n '/^\$ jougsilver /,/^\.RE/{/^[$.]/!p}' man/jougsilver.1 | sed 's/\\-/-/g' >"$work/page.txt"
+# The codes of a reply are the words of the listing, and the manual and --help have a line for each.
+codes_agree() {
+    local word
+    printf 'accepted\nshort\nnone\nwaiting\n' >"$work/words.txt"
+    sed -n 's/^    case JOUGSILVER_[A-Z]*: return "\([a-z]*\)";$/\1/p' include/jougsilver.h | grep -v '^taken$' >"$work/codes.txt" && same "$work/words.txt" "$work/codes.txt" || return
+    for word in accepted short none long waiting; do
+        ./jougsilver --help | grep -q "^  NUMBER $word " && sed -n '/^\.SH OUTPUT/,/^\.SH EXIT/p' man/jougsilver.1 | grep -q "^\.IB \"NUMBER \" $word" || return
+    done
+}
+# A text among the manual's examples, and the second program lists it as it stands there.
+page_example() { # NAME
+    sed -n '/^\$ cat '"$1"'/,/^\$ jougsilver '"$1"'/{/^\$/!p}' man/jougsilver.1 | "$second" bytes | "$second" list >"$work/second"
+    sed -n '/^\$ jougsilver '"$1"'/,/^\.RE/{/^[$.]/!p}' man/jougsilver.1 | sed 's/\\-/-/g' >"$work/page.txt"
     grep -q '^end [1-9]' "$work/second" && same "$work/second" "$work/page.txt"
 }
 
@@ -194,5 +207,7 @@ check "jougsilver.1 has no mark that groff doesn't know" page_is_clean jougsilve
 check "jougsilver.3 has no mark that groff doesn't know" page_is_clean jougsilver.3
 check "header, manual and commands say each refusal in the same words" refusals_agree
 check "jougsilver.1 has the exit statuses" page_has_statuses
-check "jougsilver.1 has an example that is listed as it says" page_example
+check "header, manual and commands have the same words for an answer" codes_agree
+check "jougsilver.1 has an example that is listed as it says" page_example press.txt
+check "jougsilver.1 has an example of nested components that is listed as it says" page_example nested.txt
 check "make uninstall takes everything away" uninstalled

@@ -1,6 +1,6 @@
 # Holds a picture against what the second program says of its component.
-# First with ask=1: prints the calls for the instants in the picture's metadata, of the component in COMPONENT (as a call has it) with
-# the capacity CAPACITY. Then without: reads the ANSWERS to them, the ANSWER, the VERDICT at that capacity and the MARGIN that must be
+# First with ask=1: prints the calls for the instants in the picture's metadata, of the component in COMPONENT (as a call has it, the
+# first OWN of its tasks its own and the others its children) with the capacity CAPACITY. Then without: reads the ANSWERS to them, the ANSWER, the VERDICT at that capacity and the MARGIN that must be
 # found, and fails where a number in the metadata, a point of a curve, a mark or a label isn't theirs, or where what is drawn between
 # the instants isn't so.
 BEGIN {
@@ -21,6 +21,7 @@ inside && $1 == "at" && ask { print "demand" table, $2; print "supply", interfac
 ask { next }
 
 inside && $1 == "component" { expect($0, "component " component) }
+inside && $1 == "own" { expect($0, "own " own); owns++ }
 inside && $1 == "interface" { expect($0, "interface " interface) }
 inside && $1 == "table" { expect($0, "table" table) }
 inside && $1 == "short" { expect($0, "short " short); shorts++ }
@@ -71,6 +72,11 @@ END {
         expect(curves["supply", v] + 0, 1)
         expect(curves["demand", v] + 0, tasks > 0)
         expect(lines[v] + 0, capacity > 0 && to[v] > deadline - capacity && line(to[v]) > low[v] * period && line(from[v]) < high[v] * period)
+    }
+    expect(owns + 0, own < tasks)
+    if (own < tasks) {
+        of_own = own > 0 ? own " task" (own == 1 ? "" : "s") " and " : ""
+        if (!labels["demand: the units due by then of " of_own (tasks - own == 1 ? "1 child" : tasks - own " children")]) wrong("no label for the workload")
     }
     expect(shorts + 0, short != "")
     expect(margins + 0, margin != "none")

@@ -5,13 +5,20 @@ plain_svg() { # FILE
     need xmllint libxml2-utils && xmllint --noout "$1" && ! grep -E '<script|<style|<image|<!|href|url\([^#]' "$1"
 }
 
-# A component as a call has it, from the text of its sheet.
+# A component as a call has it, with its workload as its tasks: from the capacities of second's listing, in $work/listed, and the sheet's text.
 component_of() { # SHEET NUMBER
-    "$second" text <"$1" | awk -v number="$2" '
-        $1 == "component" { mine = $2 == number }
-        mine && $1 == "component" { begin = $2 " " ($3 == "stated" ? "stated " $5 " " $4 " " $6 : "asked " $4 " " $5) }
-        mine && $1 == "task" { tasks++; table = table " " $2 " " $3 " " $4 }
+    { cat "$work/listed" && "$second" text <"$1"; } | awk -v number="$2" '
+        $2 == "accepted" { capacity[$1] = $3 }
+        $1 == "component" { mine = $2 == number; of[$2] = $3 == "stated" ? $4 " " $6 : $4 " " $5 }
+        mine && $1 == "component" { begin = $2 " " ($3 == "stated" ? "stated " $5 " " : "asked ") of[$2] }
+        mine && $1 == "task" { add($2 " " $3 " " $4) }
+        $1 == "pair" && $3 == number && capacity[$2] > 0 { split(of[$2], span, " "); add(span[1] " " capacity[$2] " " span[2]) }
+        function add(task) { tasks++; table = table " " task }
         END { print begin " " tasks + 0 table }'
+}
+# How many tasks of a component are its own.
+own_of() { # SHEET NUMBER
+    "$second" text <"$1" | awk -v number="$2" '$1 == "component" { mine = $2 == number } mine && $1 == "task" { tasks++ } END { print tasks + 0 }'
 }
 
 # The picture over exercise is the one over second, and its numbers are those of second's listing and answers; a component answered none
@@ -21,7 +28,7 @@ pictured() { # SHEET NUMBER
     local component words judged verdict margin
     local -x LC_ALL=C
     component=$(component_of "$1" "$2")
-    read -ra words <<<"$("$second" list <"$1" | grep "^$2 ")"
+    read -ra words <<<"$(grep "^$2 " "$work/listed")"
     judged=$component
     case ${words[1]} in
     accepted) verdict="accepted ${words[2]}" margin="${words[3]} ${words[4]}" ;;
@@ -34,20 +41,22 @@ pictured() { # SHEET NUMBER
     *) return 1 ;;
     esac
     margin=${margin/#- -/none}
-    set -- -v component="$component" -v answer="${words[1]}" -v capacity="${verdict##* }" -v verdict="$verdict" -v margin="$margin"
+    set -- -v component="$component" -v own="$(own_of "$1" "$2")" -v answer="${words[1]}" -v capacity="${verdict##* }" -v verdict="$verdict" -v margin="$margin"
     awk "$@" -v ask=1 -f tests/picture.awk "$work/svg" | "$second" answer >"$work/answers" && awk "$@" -v answers="$work/answers" -f tests/picture.awk "$work/svg"
 }
 pictured_sheet() { # SHEET
     local number word
+    "$second" list <"$1" >"$work/listed" || return
     while read -r number word _; do
         case $word in
         long) unpictured "is long" scripts/picture "$1" "$number" ;;
+        waiting) unpictured "waits" scripts/picture "$1" "$number" ;;
         *) pictured "$1" "$number" ;;
         esac || {
             echo "component $number"
             return 1
         }
-    done < <("$second" list <"$1" | grep -v '^end ')
+    done < <(grep -v '^end ' "$work/listed")
 }
 
 # No picture: status 3, nothing on standard output, and the reason on standard error.
@@ -81,6 +90,7 @@ check "no picture of a sheet that is cut off" unpictured "refusal 1 at byte 64" 
 check "no picture of an empty sheet" unpictured "refusal 1 at byte 0" scripts/picture "$work/empty.sheet" 1
 check "no picture of a sheet that is too long" unpictured "refusal 14 at byte 0" scripts/picture "$work/big.sheet" 1
 check "no picture of a long component" unpictured "common period" scripts/picture examples/sheets/large.sheet 4
+check "no picture of a component that waits" unpictured "a component inside it is not accepted" scripts/picture examples/sheets/waiting.sheet 9
 check "no picture of a directory" unpictured "not a file that can be read" scripts/picture examples/sheets 1
 check "no picture without a number" unpictured "usage" scripts/picture examples/sheets/press.sheet
 check "a picture that can't be written is a failure" unpictured "writing failed" full_disk

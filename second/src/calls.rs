@@ -3,7 +3,9 @@
 use crate::judge::{self, Verdict};
 use crate::numbers::{add_task, common_divisor, remove_task, Capacity, Component, Interface, Refusal, Table, Task, TASKS};
 use crate::run::{self, Jobs};
-use crate::{demand, sheet, supply, trace};
+use crate::sheet::{Fault, Pair};
+use crate::tree::{Judged, Tree};
+use crate::{demand, host, sheet, supply, trace};
 
 /// What a byte of a lent buffer holds before the call.
 pub const BUFFER_BYTE: u8 = 0xa5;
@@ -65,6 +67,10 @@ impl<'a> Words<'a> {
             other => return Err(format!("`{other}` is neither `stated` nor `asked`")),
         };
         Ok(Component { number, period: self.long()?, capacity, deadline: self.long()?, table: self.table()? })
+    }
+
+    fn pair(&mut self) -> Parsed<Pair> {
+        Ok(Pair { child: self.number(u16::MAX as u64)? as u16, parent: self.number(u16::MAX as u64)? as u16 })
     }
 
     fn list(&mut self) -> Parsed<Vec<u32>> {
@@ -141,8 +147,13 @@ pub enum Call {
     Read(Vec<u8>, u64),
     Write(Component, Vec<u8>, u64),
     WriteEnd(u64, Vec<u8>, u64),
+    ReadPair(Vec<u8>, u64),
+    WritePair(Pair, Vec<u8>, u64),
+    Workload(Vec<u8>, u64),
+    Tree(Vec<u8>, u64),
     Host(Vec<u8>, u64, Vec<u8>, u64),
     HostCheck(Vec<u8>, Vec<u8>, u64),
+    HostAll(Vec<u8>, Vec<u8>, u64),
 }
 
 /// The call of a line.
@@ -175,8 +186,13 @@ pub fn parse(line: &str) -> Parsed<Call> {
         "read" => Call::Read(w.row()?, w.place()?),
         "write" => Call::Write(w.component()?, w.buffer()?, w.place()?),
         "write_end" => Call::WriteEnd(w.place()?, w.buffer()?, w.place()?),
+        "read_pair" => Call::ReadPair(w.row()?, w.place()?),
+        "write_pair" => Call::WritePair(w.pair()?, w.buffer()?, w.place()?),
+        "workload" => Call::Workload(w.row()?, w.place()?),
+        "tree" => Call::Tree(w.row()?, w.place()?),
         "host" => Call::Host(w.row()?, w.place()?, w.buffer()?, w.place()?),
         "host_check" => Call::HostCheck(w.row()?, w.buffer()?, w.place()?),
+        "host_all" => Call::HostAll(w.row()?, w.buffer()?, w.place()?),
         other => return Err(format!("`{other}` is no call")),
     };
     match words.rest.next() {
@@ -202,7 +218,7 @@ fn answered_alone<T>(answer: Result<T, Refusal>, values: impl Fn(T) -> String) -
 }
 
 /// `ok` and the values, or the refusal with its place and what stands for the values then.
-fn faulted<T>(answer: Result<T, sheet::Fault>, refused: T, values: impl Fn(T) -> String) -> String {
+fn faulted<T>(answer: Result<T, Fault>, refused: T, values: impl Fn(T) -> String) -> String {
     match answer {
         Ok(value) => format!("ok {}", values(value)),
         Err((refusal, place)) => format!("refused {refusal} {place} {}", values(refused)),
@@ -245,6 +261,30 @@ fn part(row: &[u8], place: u64) -> String {
     faulted(part, vec![], |bytes| row_text(&bytes))
 }
 
+/// The tree of a sheet that has a component at a place: the sheet's refusal, then 15.
+fn tree_with(row: &[u8], place: u64) -> Result<(Tree, usize), Fault> {
+    let tree = Tree::of(&sheet::read(row)?);
+    if place < tree.components.len() as u64 { Ok((tree, place as usize)) } else { Err((15, 0)) }
+}
+
+fn workload(row: &[u8], place: u64) -> String {
+    let workload = tree_with(row, place).map(|(tree, place)| tree.workload(place));
+    faulted(workload, Some(Component::refused()), |workload| workload.map_or("waiting".to_string(), whole))
+}
+
+fn in_tree(row: &[u8], place: u64) -> String {
+    let (tree, place) = match tree_with(row, place) {
+        Ok(found) => found,
+        Err((refusal, place)) => return format!("refused {refusal} {place}"),
+    };
+    let number = tree.components[place].number;
+    match tree.judged(place) {
+        Judged::Waiting => format!("ok {number} waiting"),
+        Judged::Long => "refused 10 0".to_string(),
+        Judged::Answered(verdict, capacity, margin) => format!("ok {number} {} {}", verdict_text((verdict, capacity)), margin_text(margin)),
+    }
+}
+
 fn written(mut buffer: Vec<u8>, write: impl Fn(&mut [u8]) -> Result<u64, Refusal>) -> String {
     let place = write(&mut buffer);
     answered(place, 0, |place| format!("{place} {}", row_text(&buffer)))
@@ -279,19 +319,28 @@ pub fn answer(call: Call) -> String {
         Call::Capacity(component) => {
             answered_alone(judge::smallest(&component), |units| units.map_or("none".to_string(), |units| units.to_string()))
         }
-        Call::Sheet(row) => faulted(sheet::read(&row).map(|all| all.len()), 0, |count| count.to_string()),
+        Call::Sheet(row) => faulted(sheet::read(&row).map(|sheet| sheet.components.len()), 0, |count| count.to_string()),
         Call::Part(row, place) => part(&row, place),
         Call::Read(row, place) => faulted(sheet::at_place(&row, place).map(|read| read.component), Component::refused(), whole),
         Call::Write(component, buffer, at) => written(buffer, |bytes| sheet::write_component(&component, bytes, at)),
         Call::WriteEnd(count, buffer, at) => written(buffer, |bytes| sheet::write_end(count, bytes, at)),
-        Call::Host(row, place, buffer, at) => replied(buffer, |bytes| sheet::host_call(&row, place, bytes, at)),
-        Call::HostCheck(row, buffer, at) => replied(buffer, |bytes| sheet::host_check(&row, bytes, at)),
+        Call::ReadPair(row, place) => {
+            let refused = Pair { child: 0, parent: 0 };
+            faulted(sheet::pair_at(&row, place), refused, |pair| format!("{} {}", pair.child, pair.parent))
+        }
+        Call::WritePair(pair, buffer, at) => written(buffer, |bytes| sheet::write_pair(&pair, bytes, at)),
+        Call::Workload(row, place) => workload(&row, place),
+        Call::Tree(row, place) => in_tree(&row, place),
+        Call::Host(row, place, buffer, at) => replied(buffer, |bytes| host::judge(&row, place, bytes, at)),
+        Call::HostCheck(row, buffer, at) => replied(buffer, |bytes| host::check(&row, bytes, at)),
+        Call::HostAll(row, buffer, at) => replied(buffer, |bytes| host::judge_all(&row, bytes, at)),
     }
 }
 
 #[cfg(test)]
 mod tests {
-    use super::{answer, parse};
+    use super::{answer, parse, row_text};
+    use crate::text;
 
     fn holds(call: &str, expected: &str) {
         assert_eq!(parse(call).map(answer).as_deref(), Ok(expected), "{call}");
@@ -333,6 +382,36 @@ mod tests {
         holds("host 060003000000 0 2 0", "15 a5a5");
         holds("host_check 0600030000 14 1", "0 a5010000000000000000000000a5");
         holds("host_check 060003000000 11 0", "11 a5a5a5a5a5a5a5a5a5a5a5");
+    }
+
+    #[test]
+    fn the_calls_about_pairs() {
+        let sheet = |lines: &str| row_text(&text::bytes(lines).unwrap());
+        let five = "component 1 stated 6 2 4\ntask 8 2 7\ncomponent 2 stated 1 1 1\ntask 4 2 4\ncomponent 4 asked 6 4\ntask 4 2 2\n\
+                    component 5 asked 6 4\ncomponent 6 stated 1 1 1\ntask 4 2 4\npair 1 2\npair 5 6\nend 5";
+        let row = sheet(five);
+        holds(&format!("read_pair {row} 1"), "ok 5 6");
+        holds(&format!("read_pair {row} 2"), "refused 15 0 0 0");
+        holds(&format!("read_pair {}00 0", row), "refused 8 162 0 0");
+        holds("write_pair 1 2 10 1", "ok 9 a50800060001000200a5");
+        holds("write_pair 2 2 1 1", "refused 16 0 a5");
+        holds("write_pair 1 2 7 0", "refused 11 0 a5a5a5a5a5a5a5");
+        holds(&format!("workload {row} 1"), "ok waiting");
+        holds(&format!("workload {row} 4"), "ok 6 stated 1 1 1 1 4 2 4 zero");
+        holds(&format!("workload {row} 5"), "refused 15 0 0 stated 1 1 1 0 zero");
+        let accepted = sheet(&five.replace("8 2 7", "8 2 8"));
+        holds(&format!("workload {accepted} 1"), "ok 2 stated 1 1 1 2 4 2 4 6 2 4 zero");
+        holds(&format!("tree {accepted} 1"), "ok 2 accepted 1 0 4");
+        holds(&format!("tree {row} 0"), "ok 1 short 7 2 -1 7");
+        holds(&format!("tree {row} 1"), "ok 2 waiting");
+        holds(&format!("tree {row} 2"), "ok 4 none 0 none");
+        holds(&format!("tree {row} 3"), "ok 5 accepted 0 none");
+        holds(&format!("tree {row} 5"), "refused 15 0");
+        holds("tree - 0", "refused 1 0");
+        holds(&format!("tree {} 0", sheet("component 9 asked 3 3\ntask 1048576 1 1\nend 1")), "refused 10 0");
+        holds("host_all 060003000000 13 1", "0 a5000000000000000000000000");
+        holds("host_all 060003000100 13 1", "8 a5a5a5a5a5a5a5a5a5a5a5a5a5");
+        holds("host_all 060003000000 12 1", "11 a5a5a5a5a5a5a5a5a5a5a5a5");
     }
 
     #[test]

@@ -1,8 +1,10 @@
-//! What a set of calls reaches: each refusal of each operation, each kind of answer, ties, and both ends of each range.
+//! What a set of calls reaches: each refusal of each operation, each kind of answer, ties, both ends of each range, and the rules about
+//! pairs and trees.
 
 use crate::calls::{self, Call};
 use crate::numbers::{Capacity, Component, Interface, Table, Task, LIMIT, TASKS};
-use crate::{demand, run, sheet, supply};
+use crate::tree::Tree;
+use crate::{coverage_pairs, demand, host, run, sheet, supply};
 use std::collections::BTreeMap;
 
 #[derive(Default)]
@@ -11,7 +13,7 @@ pub struct Seen {
 }
 
 /// For each kind of call the refusals that it can meet (RULES 13).
-const REFUSALS: [(&str, &[u16]); 21] = [
+const REFUSALS: [(&str, &[u16]); 26] = [
     ("check_task", &[9]),
     ("check_table", &[6, 9]),
     ("check_interface", &[9]),
@@ -26,18 +28,23 @@ const REFUSALS: [(&str, &[u16]); 21] = [
     ("verdict", &[6, 9, 10]),
     ("margin", &[6, 9, 10]),
     ("capacity", &[6, 9, 10]),
-    ("sheet", &[1, 2, 3, 4, 5, 6, 7, 8, 9, 14]),
-    ("part", &[1, 2, 3, 4, 5, 6, 7, 8, 9, 14, 15]),
-    ("read", &[1, 2, 3, 4, 5, 6, 7, 8, 9, 14, 15]),
+    ("sheet", &[1, 2, 3, 4, 5, 6, 7, 8, 9, 14, 16]),
+    ("part", &[1, 2, 3, 4, 5, 6, 7, 8, 9, 14, 15, 16]),
+    ("read", &[1, 2, 3, 4, 5, 6, 7, 8, 9, 14, 15, 16]),
     ("write", &[6, 9, 11]),
     ("write_end", &[9, 11]),
-    ("host", &[1, 2, 3, 4, 5, 6, 7, 8, 9, 10, 11, 14, 15]),
+    ("read_pair", &[1, 2, 3, 4, 5, 6, 7, 8, 9, 14, 15, 16]),
+    ("write_pair", &[11, 16]),
+    ("workload", &[1, 2, 3, 4, 5, 6, 7, 8, 9, 14, 15, 16]),
+    ("tree", &[1, 2, 3, 4, 5, 6, 7, 8, 9, 10, 14, 15, 16]),
+    ("host", &[1, 2, 3, 4, 5, 6, 7, 8, 9, 10, 11, 14, 15, 16]),
     ("host_check", &[11]),
+    ("host_all", &[1, 2, 3, 4, 5, 6, 7, 8, 9, 11, 14, 16]),
 ];
 
 /// The answers that are no refusals, by what stands in them; ties; and the ends of ranges, the last one taken and the first
 /// one refused.
-const OTHERS: [&str; 76] = [
+const OTHERS: [&str; 93] = [
     "check_task ok",
     "check_table ok",
     "check_interface ok",
@@ -69,9 +76,26 @@ const OTHERS: [&str; 76] = [
     "host code 0",
     "host code 1",
     "host code 2",
+    "host code 3",
     "host no margin",
     "host_check taken",
     "host_check refused sheet",
+    "read_pair ok",
+    "write_pair ok",
+    "workload ok component",
+    "workload ok waiting",
+    "tree ok accepted",
+    "tree ok short",
+    "tree ok none",
+    "tree ok waiting",
+    "tree ok no margin",
+    "host_all no components",
+    "host_all code 0",
+    "host_all code 1",
+    "host_all code 2",
+    "host_all code 3",
+    "host_all refusal 10 inside",
+    "host_all no margin",
     "tie: a unit between two jobs of one deadline",
     "tie: two tasks late at the miss",
     "tie: two step instants with the least margin",
@@ -140,26 +164,64 @@ impl Seen {
         let kind = kind(&call);
         self.ends(&call);
         self.ties(&call);
-        let at = if let Call::Host(.., at) | Call::HostCheck(.., at) = &call { *at as usize } else { 0 };
+        self.tree(&call);
+        let at = if let Call::Host(.., at) | Call::HostCheck(.., at) | Call::HostAll(.., at) = &call { *at as usize } else { 0 };
         let answer = calls::answer(call);
         let words: Vec<&str> = answer.split(' ').collect();
         match (kind, words.as_slice()) {
-            ("host", ["0", buffer]) => {
-                self.add(&format!("host code {}", &buffer[2 * (at + 6) + 1..2 * (at + 6) + 2]));
-                self.add_if(buffer[2 * (at + 20)..2 * (at + 24)] == *"00000000", "host no margin");
-            }
+            ("host", ["0", buffer]) => self.reply("host", &buffer[2 * at..]),
+            ("host_all", ["0", buffer]) => self.entries(&buffer[2 * at..]),
             ("host_check", ["0", buffer]) => {
                 let taken = buffer[2 * at..2 * (at + 4)] == *"00000000";
                 self.add(if taken { "host_check taken" } else { "host_check refused sheet" });
             }
-            ("host" | "host_check", [refusal, _]) => self.add(&format!("{kind} refused {refusal}")),
+            ("host" | "host_check" | "host_all", [refusal, _]) => self.add(&format!("{kind} refused {refusal}")),
             (_, ["refused", refusal, ..]) => self.add(&format!("{kind} refused {refusal}")),
+            ("workload", ["ok", word, ..]) => self.add(if *word == "waiting" { "workload ok waiting" } else { "workload ok component" }),
+            ("tree", ["ok", _, word, rest @ ..]) => {
+                self.add(&format!("tree ok {word}"));
+                self.add_if(*word == "accepted" && rest.last() == Some(&"none"), "tree ok no margin");
+            }
             ("legal" | "walk" | "verdict", ["ok", word, ..]) => self.add(&format!("{kind} ok {word}")),
             ("margin" | "capacity", ["ok", "none"]) => self.add(&format!("{kind} ok none")),
             ("capacity", _) => self.add("capacity ok found"),
             ("margin", ["ok", "0", _]) => self.add("margin ok zero"),
             ("margin", ["ok", least, _]) => self.add(if least.starts_with('-') { "margin ok negative" } else { "margin ok positive" }),
             _ => self.add(&format!("{kind} ok")),
+        }
+    }
+
+    /// The code of a reply in hex digits, and whether it has a margin.
+    fn reply(&mut self, kind: &str, reply: &str) {
+        self.add(&format!("{kind} code {}", &reply[13..14]));
+        self.add_if(reply[40..48] == *"00000000", &format!("{kind} no margin"));
+    }
+
+    /// The entries behind the head of the reply to `host_all`.
+    fn entries(&mut self, replies: &str) {
+        let count = usize::from_str_radix(&replies[16..18], 16).expect("hex digits") + 256 * (&replies[18..20] == "01") as usize;
+        self.add_if(count == 0, "host_all no components");
+        for place in 0..count {
+            let entry = &replies[2 * (host::HEAD + host::ENTRY * place)..][..2 * host::ENTRY];
+            match &entry[..2] {
+                "00" => self.reply("host_all", &entry[24..]),
+                refusal => self.add_if(refusal == "0a", "host_all refusal 10 inside"),
+            }
+        }
+    }
+
+    /// What a call reaches of the trees of its sheet: for one place, or for all.
+    fn tree(&mut self, call: &Call) {
+        let (row, asked) = match call {
+            Call::Workload(row, place) | Call::Tree(row, place) | Call::Host(row, place, ..) => (row, Some(*place)),
+            Call::HostAll(row, ..) => (row, None),
+            _ => return,
+        };
+        if let Ok(sheet) = sheet::read(row) {
+            let tree = Tree::of(&sheet);
+            for place in (0..sheet.components.len()).filter(|&place| asked.map_or(true, |asked| asked == place as u64)) {
+                coverage_pairs::of_place(&tree, place).into_iter().for_each(|what| self.add(what));
+            }
         }
     }
 
@@ -212,9 +274,10 @@ impl Seen {
     }
 
     fn sheet(&mut self, row: &[u8]) {
+        coverage_pairs::of_sheet(row).iter().for_each(|what| self.add(what));
         self.add(&format!("sheet {}", row.len()));
         match sheet::read(row) {
-            Ok(all) => self.add(&format!("components {}", all.len())),
+            Ok(sheet) => self.add(&format!("components {}", sheet.components.len())),
             Err((7, _)) => self.add("components 257"),
             Err(_) => {}
         }
@@ -255,15 +318,23 @@ impl Seen {
                 self.add(&format!("jobs {}", jobs.tasks.len()));
             }
             Call::Sheet(row) | Call::Part(row, _) | Call::Read(row, _) => self.sheet(row),
+            Call::ReadPair(row, _) | Call::Workload(row, _) | Call::Tree(row, _) => self.sheet(row),
+            Call::WritePair(_, buffer, at) => self.room(8, buffer, *at),
             Call::Write(component, buffer, at) if component.check().is_ok() => self.room(sheet::component_bytes(component).len(), buffer, *at),
             Call::WriteEnd(_, buffer, at) => self.room(6, buffer, *at),
             Call::Host(row, _, buffer, at) => {
                 self.sheet(row);
-                self.room(sheet::REPLY, buffer, *at);
+                self.room(host::REPLY, buffer, *at);
             }
             Call::HostCheck(row, buffer, at) => {
                 self.sheet(row);
-                self.room(12, buffer, *at);
+                self.room(host::HEAD, buffer, *at);
+            }
+            Call::HostAll(row, buffer, at) => {
+                self.sheet(row);
+                if let Ok(sheet) = sheet::read(row) {
+                    self.room(host::HEAD + host::ENTRY * sheet.components.len(), buffer, *at);
+                }
             }
             _ => {}
         }
@@ -306,7 +377,7 @@ impl Seen {
         let refusals = REFUSALS.iter().flat_map(|(kind, numbers)| numbers.iter().map(move |number| format!("{kind} refused {number}")));
         let mut text = String::new();
         let mut missing = 0;
-        for what in OTHERS.iter().map(|what| what.to_string()).chain(refusals) {
+        for what in OTHERS.iter().chain(&coverage_pairs::REACHED).map(|what| what.to_string()).chain(refusals) {
             let count = self.reached(&what);
             missing += (count == 0) as usize;
             text += &format!("{count:>8} {what}\n");
@@ -338,7 +409,12 @@ fn kind(call: &Call) -> &'static str {
         Call::Read(..) => "read",
         Call::Write(..) => "write",
         Call::WriteEnd(..) => "write_end",
+        Call::ReadPair(..) => "read_pair",
+        Call::WritePair(..) => "write_pair",
+        Call::Workload(..) => "workload",
+        Call::Tree(..) => "tree",
         Call::Host(..) => "host",
         Call::HostCheck(..) => "host_check",
+        Call::HostAll(..) => "host_all",
     }
 }

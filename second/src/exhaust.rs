@@ -1,5 +1,5 @@
 //! Every small call there is, as a check of the definitions by running: all traces, all components, for each component the run that
-//! shows it to be short (RULES 7), and a small sheet damaged in every way.
+//! shows it to be short (RULES 7), and a small sheet and a small nested one damaged in every way.
 
 use crate::calls::{component_text, row_text, table_text};
 use crate::numbers::{Capacity, Component, Interface, Table, Task};
@@ -135,5 +135,39 @@ pub fn sheets() -> Vec<String> {
     for length in [sheet::BYTES, sheet::BYTES + 1] {
         all.push([full.clone(), vec![0; length - full.len()]].concat());
     }
-    all.iter().map(|bytes| format!("sheet {}", row_text(bytes))).collect()
+    let mut calls: Vec<String> = all.iter().map(|bytes| format!("sheet {}", row_text(bytes))).collect();
+    calls.extend(nested().iter().flat_map(|bytes| ["sheet ROW", "read_pair ROW 0", "host_all ROW 120 0"].map(|call| call.replace("ROW", &row_text(bytes)))));
+    calls
+}
+
+/// A small nested sheet damaged in every way: cut at every byte, a few values of every byte and every value of its pairs' bytes, each
+/// record left out, twice there or behind each other one, every pair of two numbers up to 4, every end count up to 8.
+fn nested() -> Vec<Vec<u8>> {
+    let lines = "component 1 stated 6 2 4\ntask 8 2 8\ncomponent 2 asked 1 1\ntask 4 2 4\ncomponent 3 stated 1 1 1\npair 1 2\npair 2 3\nend 3\n";
+    let bytes = |lines: &str| text::bytes(lines).expect("a sheet's text");
+    let small = bytes(lines);
+    let pairs = small.len() - 6 - 2 * 8;
+    let mut all: Vec<Vec<u8>> = (0..=small.len()).map(|end| small[..end].to_vec()).collect();
+    for at in 0..small.len() {
+        let few = [0, 1, 2, 3, 4, 5, 6, 7, 8, 14, 16, 18, 255];
+        let values: Vec<u8> = if at < pairs { few.to_vec() } else { (0..=255).collect() };
+        all.extend(values.iter().map(|&value| [&small[..at], &[value], &small[at + 1..]].concat()));
+    }
+    let records: Vec<&str> = lines.lines().collect();
+    for from in 0..records.len() {
+        let mut fewer = records.clone();
+        fewer.remove(from);
+        all.push(bytes(&fewer.join("\n")));
+        for to in 0..=fewer.len() {
+            let moved = [&fewer[..to], &[records[from]], &fewer[to..]].concat();
+            let twice = [&records[..to], &[records[from]], &records[to..]].concat();
+            all.extend([moved, twice].map(|lines| bytes(&lines.join("\n"))));
+        }
+    }
+    for (child, parent) in (0..=4).flat_map(|child| (0..=4).map(move |parent| (child, parent))) {
+        let pair = format!("pair {child} {parent}");
+        all.extend(["pair 1 2", "pair 2 3"].map(|old| bytes(&lines.replace(old, &pair))));
+    }
+    all.extend((0..=8).map(|count| bytes(&lines.replace("end 3", &format!("end {count}")))));
+    all
 }

@@ -2,11 +2,12 @@
 
 use crate::calls::{component_text, row_text, table_text};
 use crate::chance::Chance;
+use crate::nested::{self, Made};
 use crate::numbers::{Capacity, Component, Interface, Table, Task, LIMIT};
-use crate::{sheet, trace};
+use crate::{calls, host, sheet, trace};
 
 /// The kinds of call.
-pub const KINDS: [&str; 22] = [
+pub const KINDS: [&str; 27] = [
     "check_task",
     "check_table",
     "check_interface",
@@ -27,8 +28,13 @@ pub const KINDS: [&str; 22] = [
     "read",
     "write",
     "write_end",
+    "read_pair",
+    "write_pair",
+    "workload",
+    "tree",
     "host",
     "host_check",
+    "host_all",
 ];
 
 /// A call of a kind, or nothing where there is no such kind.
@@ -55,8 +61,16 @@ pub fn call(c: &mut Chance, kind: &str) -> Option<String> {
         "capacity" => component_text(&searched(judged_component(c))),
         "sheet" => row_text(&given_sheet(c)),
         "part" | "read" => {
-            let (row, count) = counted_sheet(c);
-            format!("{} {}", row_text(&row), place(c, count))
+            let made = made_sheet(c);
+            format!("{} {}", row_text(&made.bytes), place(c, made.components))
+        }
+        "workload" | "tree" => {
+            let made = nested_sheet(c);
+            format!("{} {}", row_text(&made.bytes), place(c, made.components))
+        }
+        "read_pair" => {
+            let made = nested_sheet(c);
+            format!("{} {}", row_text(&made.bytes), place(c, made.pairs))
         }
         "write" => {
             let component = given_component(c);
@@ -67,14 +81,23 @@ pub fn call(c: &mut Chance, kind: &str) -> Option<String> {
             let count = c.pick(&[0, 1, 2, 255, 256, 257, 65_535, 65_536, 1 << 32, u64::MAX]);
             room(c, &count.to_string(), 6)
         }
+        "write_pair" => {
+            let numbers = [0, 1, 2, 255, 256, 65_534, 65_535, c.below(1 << 16)];
+            let pair = format!("{} {}", c.pick(&numbers), c.pick(&numbers));
+            room(c, &pair, 8)
+        }
         "host" => {
-            let (row, count) = counted_sheet(c);
-            let chosen = place(c, count);
-            room(c, &format!("{} {chosen}", row_text(&row)), 24)
+            let made = made_sheet(c);
+            let chosen = place(c, made.components);
+            room(c, &format!("{} {chosen}", row_text(&made.bytes)), host::REPLY as u64)
         }
         "host_check" => {
             let row = given_sheet(c);
-            room(c, &row_text(&row), 12)
+            room(c, &row_text(&row), host::HEAD as u64)
+        }
+        "host_all" => {
+            let made = nested_sheet(c);
+            room(c, &row_text(&made.bytes), host::HEAD as u64 + host::ENTRY as u64 * made.components)
         }
         _ => return None,
     };
@@ -296,7 +319,7 @@ fn room(c: &mut Chance, words: &str, need: u64) -> String {
         2 => u64::MAX,
         _ => at,
     };
-    format!("{words} {length} {at}")
+    format!("{words} {} {at}", length.min(calls::BUFFER))
 }
 
 fn bits(c: &mut Chance, length: u64) -> Vec<u8> {
@@ -490,8 +513,8 @@ fn damage_sheet(c: &mut Chance, bytes: &mut Vec<u8>) {
             let at = c.below(length) as usize;
             bytes[at] = c.next() as u8;
         }
-        4 => bytes[start] = c.pick(&[0, 4, 6, 14, 16, 18, 255]),
-        5 => bytes[start + 2] = c.pick(&[0, 1, 2, 3, 4, 5, 16]),
+        4 => bytes[start] = c.pick(&[0, 4, 6, 8, 14, 16, 18, 255]),
+        5 => bytes[start + 2] = c.pick(&[0, 1, 2, 3, 4, 5, 6, 16]),
         6 => bytes.extend(sheet::end_bytes(0)),
         7 => bytes.push(c.next() as u8),
         8 => {
@@ -518,18 +541,32 @@ fn record_places(bytes: &[u8]) -> Vec<usize> {
     places
 }
 
-/// A sheet, sound or damaged, and how many components were put into it.
-fn counted_sheet(c: &mut Chance) -> (Vec<u8>, u64) {
+/// A sheet, sound or damaged, with pairs or without.
+fn made_sheet(c: &mut Chance) -> Made {
+    if c.one_in(3) { nested_sheet(c) } else { flat_sheet(c) }
+}
+
+/// A sheet with pairs, or now and then one without.
+fn nested_sheet(c: &mut Chance) -> Made {
+    let mut made = if c.one_in(10) { flat_sheet(c) } else { nested::sheet(c) };
+    if c.one_in(20) && sheet::record(&made.bytes, 0).is_ok() {
+        damage_sheet(c, &mut made.bytes);
+    }
+    made
+}
+
+fn flat_sheet(c: &mut Chance) -> Made {
+    let flat = |bytes: Vec<u8>, components: u64| Made { bytes, components, pairs: 0 };
     match c.below(300) {
         0 => {
             let mut bytes = full_sheet(c);
             if c.one_in(2) {
                 bytes.push(0);
             }
-            return (bytes, 67);
+            return flat(bytes, 67);
         }
-        1 => return (many_components(c), 256),
-        2 | 3 => return (too_many_tasks(c), 1),
+        1 => return flat(many_components(c), 256),
+        2 | 3 => return flat(too_many_tasks(c), 1),
         _ => {}
     }
     let count = match c.below(10) {
@@ -541,12 +578,12 @@ fn counted_sheet(c: &mut Chance) -> (Vec<u8>, u64) {
     if c.one_in(2) {
         damage_sheet(c, &mut bytes);
     }
-    (bytes, count)
+    flat(bytes, count)
 }
 
 /// A sheet, sound or damaged.
 pub fn given_sheet(c: &mut Chance) -> Vec<u8> {
-    counted_sheet(c).0
+    made_sheet(c).bytes
 }
 
 #[cfg(test)]
@@ -570,6 +607,6 @@ mod tests {
     fn the_full_sheet_is_as_long_as_a_sheet_can_be() {
         let bytes = full_sheet(&mut Chance::new(1));
         assert_eq!(bytes.len(), sheet::BYTES);
-        assert_eq!(sheet::read(&bytes).unwrap().len(), 67);
+        assert_eq!(sheet::read(&bytes).unwrap().components.len(), 67);
     }
 }

@@ -4,17 +4,22 @@ mod bench;
 mod calls;
 mod chance;
 mod coverage;
+mod coverage_pairs;
 mod demand;
 mod exhaust;
 mod generate;
+mod host;
 mod judge;
 mod listing;
+mod nested;
 mod numbers;
 mod run;
 mod sheet;
+mod simulate;
 mod supply;
 mod text;
 mod trace;
+mod tree;
 
 use std::io::{BufRead, BufWriter, Read, Write};
 use std::process::ExitCode;
@@ -28,6 +33,7 @@ second text                the sheet on standard input as text, one line a recor
 second bytes               such a text on standard input as a sheet; status 1 and a message a line where lines are wrong
 second line PLACE          the line of such a text whose record has the byte at a place; status 1 as above
 second every traces|components|runs|sheets   every small call of a kind
+second simulate SEED COUNT        calls about runs of accepted trees: no walk misses, each child's service is legal
 second rows                the rows of the benchmark, a line each
 second row PLACE KIND      the calls of a row (`walk`: the longest walk)
 second coverage            counts what the calls on standard input reach, and fails if something is not reached";
@@ -104,6 +110,14 @@ fn command(words: &[&str]) -> Result<(), String> {
             };
             for call in calls {
                 said(writeln!(out, "{call}"))?;
+            }
+        }
+        ["simulate", seed, count] => {
+            let mut chance = chance::Chance::new(number(seed)?);
+            for _ in 0..number(count)? {
+                for call in simulate::calls(&mut chance) {
+                    said(writeln!(out, "{call}"))?;
+                }
             }
         }
         ["rows"] => {

@@ -48,14 +48,23 @@ pub fn check_jobs(table: &Table, jobs: &Jobs, slots: usize) -> Result<(), Refusa
     Ok(())
 }
 
+fn deadlines(table: &Table, jobs: &Jobs) -> Vec<u64> {
+    jobs.tasks.iter().zip(&jobs.releases).map(|(&number, &release)| release as u64 + table.tasks[number as usize].deadline as u64).collect()
+}
+
+/// The job that a supplied slot serves: of those waiting the one with the earliest deadline, of equal ones the lowest task's.
+fn next(jobs: &Jobs, deadlines: &[u64], left: &[u32], slot: usize) -> Option<usize> {
+    let waiting = (0..deadlines.len()).filter(|&job| jobs.releases[job] as usize <= slot && left[job] > 0);
+    waiting.min_by_key(|&job| (deadlines[job], jobs.tasks[job]))
+}
+
 /// The run itself, on checked lists, to the first miss or the trace's end.
 pub fn run(table: &Table, jobs: &Jobs, trace: &[u8]) -> Walked {
-    let deadlines: Vec<u64> = jobs.tasks.iter().zip(&jobs.releases).map(|(&number, &release)| release as u64 + table.tasks[number as usize].deadline as u64).collect();
+    let deadlines = deadlines(table, jobs);
     let mut walked = Walked { miss: None, served: 0, idle: 0, left: jobs.works.clone() };
     for (slot, &supplied) in trace.iter().enumerate() {
         if supplied == 1 {
-            let waiting = (0..deadlines.len()).filter(|&job| jobs.releases[job] as usize <= slot && walked.left[job] > 0);
-            match waiting.min_by_key(|&job| (deadlines[job], jobs.tasks[job])) {
+            match next(jobs, &deadlines, &walked.left, slot) {
                 Some(job) => {
                     walked.left[job] -= 1;
                     walked.served += 1;
@@ -71,6 +80,19 @@ pub fn run(table: &Table, jobs: &Jobs, trace: &[u8]) -> Walked {
         }
     }
     walked
+}
+
+/// The task that each slot of the trace serves, to its end whatever is missed.
+pub fn served(table: &Table, jobs: &Jobs, trace: &[u8]) -> Vec<Option<u32>> {
+    let deadlines = deadlines(table, jobs);
+    let mut left = jobs.works.clone();
+    trace.iter().enumerate().map(|(slot, &supplied)| {
+        let job = if supplied == 1 { next(jobs, &deadlines, &left, slot) } else { None };
+        job.map(|job| {
+            left[job] -= 1;
+            jobs.tasks[job]
+        })
+    }).collect()
 }
 
 /// Whether some unit of the run goes to one of several waiting jobs with the same earliest deadline, and whether several

@@ -1,20 +1,17 @@
-//! The sheet (RULES 10): its check, parts, reading and writing; and the replies to the host (RULES 14).
+//! The sheet (RULES 10): its check, parts, reading and writing.
 
-use crate::judge::{margin, verdict, Verdict};
 use crate::numbers::{Capacity, Component, Refusal, Table, Task, TASKS};
 
 /// The most bytes of a sheet.
 pub const BYTES: usize = 65_536;
 /// The most components of a sheet.
 pub const COMPONENTS: usize = 256;
-/// The reply's length and kind.
-pub const REPLY: usize = 24;
-pub const REPLY_KIND: u16 = 16;
 
 pub const STATED: u16 = 1;
 pub const TASK: u16 = 2;
 pub const END: u16 = 3;
 pub const ASKED: u16 = 4;
+pub const PAIR: u16 = 6;
 
 /// A component of a sheet, with the places where its records begin and end.
 #[derive(Clone, Debug, PartialEq, Eq)]
@@ -22,6 +19,20 @@ pub struct Read {
     pub start: usize,
     pub end: usize,
     pub component: Component,
+}
+
+/// The numbers of a child and of its parent.
+#[derive(Clone, Copy, Debug, PartialEq, Eq)]
+pub struct Pair {
+    pub child: u16,
+    pub parent: u16,
+}
+
+/// The components and the pairs of a sheet, in its order.
+#[derive(Clone, Debug, Default, PartialEq, Eq)]
+pub struct Sheet {
+    pub components: Vec<Read>,
+    pub pairs: Vec<Pair>,
 }
 
 /// The refusal and its place (RULES 11).
@@ -34,6 +45,7 @@ pub fn length_of(kind: u16) -> Option<usize> {
         TASK => Some(16),
         END => Some(6),
         ASKED => Some(14),
+        PAIR => Some(8),
         _ => None,
     }
 }
@@ -63,67 +75,121 @@ pub fn record(sheet: &[u8], at: usize) -> Result<(u16, &[u8]), Refusal> {
     Ok((kind, &rest[..length]))
 }
 
-/// All components of a sheet, or its refusal with its place.
-pub fn read(sheet: &[u8]) -> Result<Vec<Read>, Fault> {
-    if sheet.len() > BYTES {
-        return Err((14, 0));
+/// The sheet, or its refusal with its place.
+pub fn read(bytes: &[u8]) -> Result<Sheet, Fault> {
+    match scan(bytes) {
+        (sheet, None) => Ok(sheet),
+        (_, Some(fault)) => Err(fault),
     }
-    let mut components: Vec<Read> = vec![];
+}
+
+/// What stands in a sheet before its refusal, and the refusal.
+pub fn scan(bytes: &[u8]) -> (Sheet, Option<Fault>) {
+    let mut sheet = Sheet::default();
+    if bytes.len() > BYTES {
+        return (sheet, Some((14, 0)));
+    }
     let mut at = 0;
     loop {
-        let (kind, fields) = record(sheet, at).map_err(|refusal| (refusal, at))?;
-        let end = at + fields.len();
+        match sheet.take(bytes, at) {
+            Ok(Some(next)) => at = next,
+            Ok(None) => return (sheet, None),
+            Err(refusal) => return (sheet, Some((refusal, at))),
+        }
+    }
+}
+
+impl Sheet {
+    /// Takes the record at a place and answers where the next one begins; none does behind the end.
+    pub fn take(&mut self, bytes: &[u8], at: usize) -> Result<Option<usize>, Refusal> {
+        let (kind, fields) = record(bytes, at)?;
+        let next = at + fields.len();
         match kind {
-            STATED | ASKED => components.push(component(&components, kind, fields, at).map_err(|refusal| (refusal, at))?),
-            TASK => task(&mut components, fields, end).map_err(|refusal| (refusal, at))?,
+            STATED | ASKED => self.component(kind, fields, at)?,
+            TASK => self.task(fields, next)?,
+            PAIR => self.pair(fields)?,
             _ => {
-                let right = number(fields, 4) as usize == components.len() && end == sheet.len();
-                return if right { Ok(components) } else { Err((8, at)) };
+                let right = number(fields, 4) as usize == self.components.len() && next == bytes.len();
+                return if right { Ok(None) } else { Err(8) };
             }
         }
-        at = end;
+        Ok(Some(next))
+    }
+
+    /// A component record: behind a pair 16, one too many 7, a number that doesn't rise 5, a value out of range 9, in that order.
+    fn component(&mut self, kind: u16, fields: &[u8], at: usize) -> Result<(), Refusal> {
+        if !self.pairs.is_empty() {
+            return Err(16);
+        }
+        if self.components.len() == COMPONENTS {
+            return Err(7);
+        }
+        let own = number(fields, 4);
+        if self.components.last().map_or(false, |last| own <= last.component.number) {
+            return Err(5);
+        }
+        let (capacity, deadline) = match kind {
+            STATED => (Capacity::Stated(time(fields, 10)), time(fields, 14)),
+            _ => (Capacity::Asked, time(fields, 10)),
+        };
+        let component = Component { number: own, period: time(fields, 6), capacity, deadline, table: Table::new(vec![]) };
+        component.check()?;
+        self.components.push(Read { start: at, end: at + fields.len(), component });
+        Ok(())
+    }
+
+    /// A task record: behind a pair 16, with no component before it 4, one too many 6, out of range 9, in that order.
+    fn task(&mut self, fields: &[u8], end: usize) -> Result<(), Refusal> {
+        if !self.pairs.is_empty() {
+            return Err(16);
+        }
+        let read = self.components.last_mut().ok_or(4u16)?;
+        if read.component.table.count == TASKS {
+            return Err(6);
+        }
+        let task = Task::new(time(fields, 4), time(fields, 8), time(fields, 12));
+        task.check()?;
+        read.component.table.tasks.push(task);
+        read.component.table.count += 1;
+        read.end = end;
+        Ok(())
+    }
+
+    /// A pair record: one that breaks the rules of pairs is 16, one child too many for its parent 6, in that order.
+    fn pair(&mut self, fields: &[u8]) -> Result<(), Refusal> {
+        let pair = Pair { child: number(fields, 4), parent: number(fields, 6) };
+        let rises = self.pairs.last().map_or(true, |last| last.child < pair.child);
+        let parent = self.place_of(pair.parent).ok_or(16u16)?;
+        if pair.parent <= pair.child || !rises || self.place_of(pair.child).is_none() {
+            return Err(16);
+        }
+        let children = self.pairs.iter().filter(|earlier| earlier.parent == pair.parent).count() as u64;
+        if self.components[parent].component.table.count + children + 1 > TASKS {
+            return Err(6);
+        }
+        self.pairs.push(pair);
+        Ok(())
+    }
+
+    /// The place of the component with a number, where there is one.
+    pub fn place_of(&self, number: u16) -> Option<usize> {
+        self.components.iter().position(|read| read.component.number == number)
     }
 }
 
-/// A component record: one too many is 7, a number that doesn't rise 5, a value out of range 9, in that order.
-fn component(before: &[Read], kind: u16, fields: &[u8], at: usize) -> Result<Read, Refusal> {
-    if before.len() == COMPONENTS {
-        return Err(7);
-    }
-    let own = number(fields, 4);
-    if before.last().map_or(false, |last| own <= last.component.number) {
-        return Err(5);
-    }
-    let (capacity, deadline) = match kind {
-        STATED => (Capacity::Stated(time(fields, 10)), time(fields, 14)),
-        _ => (Capacity::Asked, time(fields, 10)),
-    };
-    let component = Component { number: own, period: time(fields, 6), capacity, deadline, table: Table::new(vec![]) };
-    component.check()?;
-    Ok(Read { start: at, end: at + fields.len(), component })
-}
-
-/// A task record: with no component before it 4, one too many 6, out of range 9, in that order.
-fn task(components: &mut [Read], fields: &[u8], end: usize) -> Result<(), Refusal> {
-    let read = components.last_mut().ok_or(4u16)?;
-    if read.component.table.count == TASKS {
-        return Err(6);
-    }
-    let task = Task::new(time(fields, 4), time(fields, 8), time(fields, 12));
-    task.check()?;
-    read.component.table.tasks.push(task);
-    read.component.table.count += 1;
-    read.end = end;
-    Ok(())
+/// Of several things the one at a place, or 15.
+fn chosen<T: Clone>(all: &[T], place: u64) -> Result<T, Fault> {
+    usize::try_from(place).ok().and_then(|place| all.get(place)).cloned().ok_or((15, 0))
 }
 
 /// The component at a place among the components: the sheet's refusal, then 15.
-pub fn at_place(sheet: &[u8], place: u64) -> Result<Read, Fault> {
-    let all = read(sheet)?;
-    if place >= all.len() as u64 {
-        return Err((15, 0));
-    }
-    Ok(all[place as usize].clone())
+pub fn at_place(bytes: &[u8], place: u64) -> Result<Read, Fault> {
+    chosen(&read(bytes)?.components, place)
+}
+
+/// The pair at a place among the pairs: the sheet's refusal, then 15.
+pub fn pair_at(bytes: &[u8], place: u64) -> Result<Pair, Fault> {
+    chosen(&read(bytes)?.pairs, place)
 }
 
 /// A component's records as bytes.
@@ -141,10 +207,24 @@ pub fn component_bytes(component: &Component) -> Vec<u8> {
             times(&mut bytes, &[component.period, component.deadline]);
         }
     }
-    for task in &component.table.tasks {
-        begin(&mut bytes, TASK);
-        times(&mut bytes, &[task.period, task.work, task.deadline]);
-    }
+    bytes.extend(component.table.tasks.iter().flat_map(task_bytes));
+    bytes
+}
+
+/// A task's record as bytes.
+pub fn task_bytes(task: &Task) -> Vec<u8> {
+    let mut bytes = vec![];
+    begin(&mut bytes, TASK);
+    times(&mut bytes, &[task.period, task.work, task.deadline]);
+    bytes
+}
+
+/// A pair's record as bytes.
+pub fn pair_bytes(pair: &Pair) -> Vec<u8> {
+    let mut bytes = vec![];
+    begin(&mut bytes, PAIR);
+    bytes.extend(pair.child.to_le_bytes());
+    bytes.extend(pair.parent.to_le_bytes());
     bytes
 }
 
@@ -182,7 +262,16 @@ pub fn write_end(count: u64, buffer: &mut [u8], at: u64) -> Result<u64, Refusal>
     put(&end_bytes(count as u16), buffer, at)
 }
 
-fn put(bytes: &[u8], buffer: &mut [u8], at: u64) -> Result<u64, Refusal> {
+/// Writes a pair and answers the place behind it, or 16 unless the parent is the larger, 11 (RULES 13).
+pub fn write_pair(pair: &Pair, buffer: &mut [u8], at: u64) -> Result<u64, Refusal> {
+    if pair.parent <= pair.child {
+        return Err(16);
+    }
+    put(&pair_bytes(pair), buffer, at)
+}
+
+/// Puts bytes into a buffer at a place and answers the place behind them; 11 without room.
+pub fn put(bytes: &[u8], buffer: &mut [u8], at: u64) -> Result<u64, Refusal> {
     if at > buffer.len() as u64 || (buffer.len() as u64 - at) < bytes.len() as u64 {
         return Err(11);
     }
@@ -191,53 +280,10 @@ fn put(bytes: &[u8], buffer: &mut [u8], at: u64) -> Result<u64, Refusal> {
     Ok((at + bytes.len()) as u64)
 }
 
-/// The reply to the host for one component.
-pub fn reply(component: &Component) -> Result<Vec<u8>, Refusal> {
-    let (verdict, capacity) = verdict(component)?;
-    let (code, short) = match verdict {
-        Verdict::Accepted => (0u16, 0),
-        Verdict::Short(instant) => (1, instant as u32),
-        Verdict::None => (2, 0),
-    };
-    let (margin, instant) = margin(component)?.unwrap_or((0, 0));
-    let mut bytes = vec![];
-    bytes.extend((REPLY as u16).to_le_bytes());
-    bytes.extend(REPLY_KIND.to_le_bytes());
-    bytes.extend(component.number.to_le_bytes());
-    bytes.extend(code.to_le_bytes());
-    times(&mut bytes, &[capacity, short, margin as i32 as u32, instant as u32]);
-    Ok(bytes)
-}
-
-/// The host's judging call: refused by the sheet, or with 15, 10, 11; 0 if the reply is written.
-pub fn host_call(sheet: &[u8], place: u64, buffer: &mut [u8], at: u64) -> Refusal {
-    let read = match at_place(sheet, place) {
-        Ok(read) => read,
-        Err((refusal, _)) => return refusal,
-    };
-    match reply(&read.component).and_then(|bytes| put(&bytes, buffer, at)) {
-        Ok(_) => 0,
-        Err(refusal) => refusal,
-    }
-}
-
-/// The host's checking call: refusal, place and count of the sheet as the reply; 11 without room.
-pub fn host_check(sheet: &[u8], buffer: &mut [u8], at: u64) -> Refusal {
-    let (refusal, place, count) = match read(sheet) {
-        Ok(all) => (0, 0, all.len()),
-        Err((refusal, place)) => (refusal, place, 0),
-    };
-    let mut bytes = vec![];
-    times(&mut bytes, &[refusal as u32, place as u32, count as u32]);
-    match put(&bytes, buffer, at) {
-        Ok(_) => 0,
-        Err(refusal) => refusal,
-    }
-}
-
 #[cfg(test)]
 mod tests {
     use super::*;
+    use crate::text;
 
     fn one(number: u16) -> Component {
         Component { number, period: 6, capacity: Capacity::Stated(2), deadline: 4, table: Table::new(vec![Task::new(8, 2, 8)]) }
@@ -252,14 +298,14 @@ mod tests {
     #[test]
     fn empty_input_and_an_end_record_alone() {
         assert_eq!(read(&[]), Err((1, 0)));
-        assert_eq!(read(&end_bytes(0)), Ok(vec![]));
+        assert_eq!(read(&end_bytes(0)), Ok(Sheet::default()));
     }
 
     #[test]
     fn what_is_written_is_read_back() {
         let components = [one(3), one(7), one(65_535)];
         let sheet = sheet_of(&components);
-        let found: Vec<Component> = read(&sheet).unwrap().into_iter().map(|r| r.component).collect();
+        let found: Vec<Component> = read(&sheet).unwrap().components.into_iter().map(|r| r.component).collect();
         assert_eq!(found, components);
         assert_eq!(at_place(&sheet, 1).map(|r| (r.start, r.end)), Ok((34, 68)));
         assert_eq!(at_place(&sheet, 3), Err((15, 0)));
@@ -289,18 +335,103 @@ mod tests {
         assert_eq!(read(&sheet_of(&[full])).unwrap_err(), (6, 18 + 64 * 16));
         let many: Vec<Component> = (0..257).map(|n| Component { table: Table::new(vec![]), ..one(n) }).collect();
         assert_eq!(read(&sheet_of(&many)).unwrap_err(), (7, 256 * 18));
-        assert_eq!(read(&sheet_of(&many[..256])).unwrap().len(), 256);
+        assert_eq!(read(&sheet_of(&many[..256])).unwrap().components.len(), 256);
+    }
+
+    /// Components 1 to 3 without tasks, then the lines given.
+    fn with_lines(lines: &str) -> Vec<u8> {
+        let components: String = (1..=3).map(|number| format!("component {number} stated 6 2 4\n")).collect();
+        text::bytes(&(components + lines)).unwrap()
     }
 
     #[test]
-    fn the_reply_fills_only_its_bytes() {
-        let sheet = sheet_of(&[one(3)]);
-        let mut buffer = [0xa5; 30];
-        assert_eq!(host_call(&sheet, 0, &mut buffer, 3), 0);
-        assert_eq!(buffer[..3], [0xa5; 3]);
-        assert_eq!(buffer[3..27], [24, 0, 16, 0, 3, 0, 0, 0, 2, 0, 0, 0, 0, 0, 0, 0, 0, 0, 0, 0, 8, 0, 0, 0]);
-        assert_eq!(buffer[27..], [0xa5; 3]);
-        assert_eq!(host_call(&sheet, 0, &mut buffer[..26], 3), 11);
-        assert_eq!(host_call(&sheet, 1, &mut [], 0), 15);
+    fn pairs_are_read_back_and_chosen_by_their_place() {
+        let sheet = with_lines("pair 1 3\npair 2 3\nend 3");
+        assert_eq!(read(&sheet).unwrap().pairs, [Pair { child: 1, parent: 3 }, Pair { child: 2, parent: 3 }]);
+        assert_eq!(pair_at(&sheet, 1), Ok(Pair { child: 2, parent: 3 }));
+        assert_eq!(pair_at(&sheet, 2), Err((15, 0)));
+        assert_eq!(pair_at(&sheet, u64::MAX), Err((15, 0)));
+        assert_eq!(pair_at(&with_lines("end 2"), 0), Err((8, 54)));
+        assert_eq!(at_place(&sheet, 2).map(|read| (read.start, read.end)), Ok((36, 54)));
+    }
+
+    #[test]
+    fn a_pair_that_breaks_the_rules_of_pairs_is_16_at_the_pair() {
+        let fault = |lines: &str| read(&with_lines(lines)).unwrap_err();
+        assert_eq!(fault("pair 3 2\nend 3"), (16, 54));
+        assert_eq!(fault("pair 2 2\nend 3"), (16, 54));
+        assert_eq!(fault("pair 1 2\npair 1 3\nend 3"), (16, 62));
+        assert_eq!(fault("pair 2 3\npair 1 3\nend 3"), (16, 62));
+        assert_eq!(fault("pair 0 3\nend 3"), (16, 54));
+        assert_eq!(fault("pair 3 4\nend 3"), (16, 54));
+        assert_eq!(fault("pair 1 4\ncomponent 4 asked 1 1\nend 4"), (16, 54));
+        assert_eq!(read(&text::bytes("pair 1 2\nend 0").unwrap()), Err((16, 0)));
+    }
+
+    #[test]
+    fn what_stands_behind_a_pair_is_16_before_its_own_refusals() {
+        let fault = |lines: &str| read(&with_lines(lines)).unwrap_err();
+        assert_eq!(fault("pair 1 2\ncomponent 4 asked 1 1\nend 4"), (16, 62));
+        assert_eq!(fault("pair 1 2\ncomponent 3 asked 0 0\nend 4"), (16, 62));
+        assert_eq!(fault("pair 1 2\ntask 8 2 8\nend 3"), (16, 62));
+        assert_eq!(fault("pair 1 2\ntask 8 0 9\nend 3"), (16, 62));
+        let cut = with_lines("pair 1 2\ntask 8 2 8");
+        assert_eq!(read(&cut[..cut.len() - 1]).unwrap_err(), (1, 62));
+        let many: Vec<Component> = (0..257).map(|n| Component { table: Table::new(vec![]), ..one(n) }).collect();
+        let mut bytes: Vec<u8> = many[..256].iter().flat_map(component_bytes).collect();
+        bytes.extend(pair_bytes(&Pair { child: 0, parent: 255 }));
+        bytes.extend(component_bytes(&many[256]));
+        assert_eq!(read(&bytes).unwrap_err(), (16, 256 * 18 + 8));
+    }
+
+    #[test]
+    fn a_pairs_kind_length_and_cut_come_first_and_the_end_counts_components_alone() {
+        let sheet = with_lines("pair 1 2\nend 3");
+        for length in (0..=255).filter(|&length| length != 8) {
+            let mut bytes = sheet.clone();
+            bytes[54] = length;
+            assert_eq!(read(&bytes).unwrap_err(), (3, 54));
+        }
+        for end in 54..62 {
+            assert_eq!(read(&sheet[..end]).unwrap_err(), (1, 54));
+        }
+        assert_eq!(read(&sheet[..62]).unwrap_err(), (1, 62));
+        assert_eq!(read(&with_lines("pair 1 2\nend 4")).unwrap_err(), (8, 62));
+        assert_eq!(read(&with_lines("pair 1 2\nend 3\npair 2 3")).unwrap_err(), (8, 62));
+    }
+
+    /// A sheet of so many children without tasks below a last component with so many tasks.
+    fn filled(children: u16, tasks: usize) -> Vec<u8> {
+        let child = |number| Component { number, capacity: Capacity::Asked, table: Table::new(vec![]), ..one(number) };
+        let parent = Component { table: Table::new(vec![Task::new(8, 1, 8); tasks]), ..one(children) };
+        let mut bytes: Vec<u8> = (0..children).flat_map(|number| component_bytes(&child(number))).chain(component_bytes(&parent)).collect();
+        bytes.extend((0..children).flat_map(|number| pair_bytes(&Pair { child: number, parent: children })));
+        bytes.extend(end_bytes(children + 1));
+        bytes
+    }
+
+    #[test]
+    fn tasks_and_children_together_are_64_at_most_whatever_their_capacities() {
+        for (children, tasks) in [(64, 0), (1, 63), (32, 32)] {
+            assert!(read(&filled(children, tasks)).is_ok());
+        }
+        for (children, tasks) in [(65, 0), (1, 64), (33, 32), (64, 1)] {
+            let bytes = filled(children, tasks);
+            assert_eq!(read(&bytes).unwrap_err(), (6, bytes.len() - 6 - 8));
+        }
+        let mut both = filled(1, 64);
+        let pair = both.len() - 6 - 8;
+        both[pair + 4] = 2;
+        assert_eq!(read(&both).unwrap_err(), (16, pair));
+    }
+
+    #[test]
+    fn a_pair_is_written_where_its_parent_is_larger() {
+        let mut buffer = [0xa5; 10];
+        assert_eq!(write_pair(&Pair { child: 1, parent: 258 }, &mut buffer, 1), Ok(9));
+        assert_eq!(buffer, [0xa5, 8, 0, 6, 0, 1, 0, 2, 1, 0xa5]);
+        assert_eq!(write_pair(&Pair { child: 1, parent: 2 }, &mut buffer, 3), Err(11));
+        assert_eq!(write_pair(&Pair { child: 2, parent: 2 }, &mut buffer, 3), Err(16));
+        assert_eq!(write_pair(&Pair { child: 3, parent: 2 }, &mut [], u64::MAX), Err(16));
     }
 }

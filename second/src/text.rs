@@ -26,6 +26,7 @@ const FORMS: &[Form] = &[
     Form { kind: sheet::STATED, parts: &[Word("component"), Number("NUMBER"), Word("stated"), Time("Π"), Time("Θ"), Time("Δ")] },
     Form { kind: sheet::ASKED, parts: &[Word("component"), Number("NUMBER"), Word("asked"), Time("Π"), Time("Δ")] },
     Form { kind: sheet::TASK, parts: &[Word("task"), Time("T"), Time("C"), Time("D")] },
+    Form { kind: sheet::PAIR, parts: &[Word("pair"), Number("CHILD"), Number("PARENT")] },
     Form { kind: sheet::END, parts: &[Word("end"), Number("COUNT")] },
 ];
 
@@ -248,6 +249,9 @@ mod tests {
         assert_eq!(text(&sheet).unwrap(), SMALL);
         let most = "component 65535 stated 4294967295 0 4294967295\n";
         assert_eq!(text(&bytes(most).unwrap()).unwrap(), most);
+        let nested = "component 1 stated 6 2 4\ncomponent 2 asked 6 4\npair 1 2\nend 2\n";
+        assert_eq!(bytes(nested).unwrap()[32..40], [8, 0, 6, 0, 1, 0, 2, 0]);
+        assert_eq!(text(&bytes(nested).unwrap()).unwrap(), nested);
     }
 
     #[test]
@@ -268,6 +272,7 @@ mod tests {
         assert_eq!(wrong("component 1"), [format!("1: `component 1`: a component is {both}")]);
         assert_eq!(wrong("component 1 given 6 2 4"), [format!("1: `component 1 given 6 2 4`: a component is {both}")]);
         assert!(wrong("end 0\ntusk 8 2 8")[0].starts_with("2: `tusk 8 2 8`: no record begins with `tusk`; a line is `component"));
+        assert_eq!(wrong("pair 1"), ["1: `pair 1`: pair needs CHILD PARENT: `pair CHILD PARENT`"]);
         assert_eq!(wrong("end 1 2"), ["1: `end 1 2`: end needs COUNT: `end COUNT`"]);
     }
 

@@ -18,75 +18,59 @@
 #include <string.h>
 #include <time.h>
 
-enum { STACK = 1 << 20, PAINT = 0xa5, LIMIT = 1 << 20, TASKS = 64, COMPONENTS = 256, ASKED = -1 };
+#include "trees.h"
 
-static uint8_t sheet[65536];
-static size_t length, place;
+enum { STACK = 1 << 20, PAINT = 0xa5 };
+
+static size_t place;
 static double milliseconds;
 static uint8_t *stack, *frame;
-
-static void put(uint32_t value, int width) {
-    for (int i = 0; i < width; i++, value >>= 8) sheet[length++] = (uint8_t)value;
-}
-
-static void component(unsigned number, long capacity) {
-    put(capacity == ASKED ? 14 : 18, 2);
-    put(capacity == ASKED ? 4 : 1, 2);
-    put(number, 2);
-    put(LIMIT, 4);
-    if (capacity != ASKED) put((uint32_t)capacity, 4);
-    put(LIMIT, 4);
-}
-
-static void task(uint32_t period, uint32_t deadline) {
-    put(16, 2);
-    put(2, 2);
-    put(period, 4);
-    put(1, 4);
-    put(deadline, 4);
-}
-
-static void end(unsigned count) {
-    put(6, 2);
-    put(3, 2);
-    put(count, 2);
-}
-
-/* One of 64 tasks is due at each instant, in an order that is none of the table's: 37 is prime to 64. Accepted at the full
-   deadline and no sooner, so that every instant up to the limit is looked at. */
-static void in_turn(void) {
-    for (uint32_t i = 0; i < TASKS; i++) task(TASKS, i * 37 % TASKS + 1);
-}
+static uint8_t replies[JOUGSILVER_ALL_LENGTH(JOUGSILVER_MOST_COMPONENTS)];
 
 static void asked(void) {
-    component(1, ASKED);
+    component(1, LIMIT, ASKED, LIMIT);
     in_turn();
     end(1);
 }
 
 static void stated(void) {
-    component(1, LIMIT);
+    component(1, LIMIT, LIMIT, LIMIT);
     in_turn();
     end(1);
 }
 
 /* All 64 tasks are due at each instant: short at once, but the margin is measured over all of them. */
 static void at_once(void) {
-    component(1, LIMIT);
-    for (int i = 0; i < TASKS; i++) task(1, 1);
+    component(1, LIMIT, LIMIT, LIMIT);
+    for (int i = 0; i < TASKS; i++) task(1, 1, 1);
     end(1);
 }
 
 /* The asked one as the last of 256 components; no sheet of 256 has more than these 65,534 bytes. */
 static void last_of_many(void) {
     for (unsigned number = 0; number < COMPONENTS - 1; number++) {
-        component(number, number < 2 ? LIMIT : ASKED);
-        for (int i = 0; i < (number < 237 ? 15 : 14); i++) task(1, 1);
+        component(number, LIMIT, number < 2 ? LIMIT : ASKED, LIMIT);
+        for (int i = 0; i < (number < 237 ? 15 : 14); i++) task(1, 1, 1);
     }
-    component(COMPONENTS - 1, ASKED);
+    component(COMPONENTS - 1, LIMIT, ASKED, LIMIT);
     in_turn();
     end(COMPONENTS);
     place = COMPONENTS - 1;
+}
+
+static void top_of_chain(void) {
+    chain();
+    place = COMPONENTS - 1;
+}
+
+/* As many asked components of 64 tasks as a sheet holds. */
+static void asked_many(void) {
+    unsigned number = 0;
+    for (; number < 63; number++) {
+        component(number, LIMIT, ASKED, LIMIT);
+        in_turn();
+    }
+    end(number);
 }
 
 static double now(void) {
@@ -113,15 +97,23 @@ static void *check(void *reply) {
     return NULL;
 }
 
+static void *judge_all(void *reply) {
+    uint8_t here;
+    frame = &here;
+    double from = now();
+    if (jougsilver_judge_all(sheet, length, (uint8_t *)reply, sizeof replies, 0) != JOUGSILVER_TAKEN) exit(3);
+    milliseconds = now() - from;
+    return NULL;
+}
+
 /* The stack that one call took. */
 static size_t stack_of(void *(*call)(void *)) {
-    uint8_t reply[JOUGSILVER_REPLY_LENGTH];
     pthread_attr_t where;
     pthread_t thread;
     size_t lowest = 0;
     memset(stack, PAINT, STACK);
     if (pthread_attr_init(&where) != 0 || pthread_attr_setstack(&where, stack, STACK) != 0) exit(3);
-    if (pthread_create(&thread, &where, call, reply) != 0 || pthread_join(thread, NULL) != 0) exit(3);
+    if (pthread_create(&thread, &where, call, replies) != 0 || pthread_join(thread, NULL) != 0) exit(3);
     pthread_attr_destroy(&where);
     while (stack[lowest] == PAINT) lowest++;
     return (size_t)(frame - stack) - lowest;
@@ -150,6 +142,10 @@ int main(int argc, char **argv) {
     over |= measure("judge, all tasks due at each instant", at_once, judge, runs);
     over |= measure("judge, asked", asked, judge, runs);
     over |= measure("judge, asked, last of 256 components", last_of_many, judge, runs);
+    over |= measure("judge, asked, top of a chain of 256", top_of_chain, judge, runs);
+    over |= measure("judge_all, a chain of 256", chain, judge_all, runs);
+    over |= measure("judge_all, four parents of 63 children", fan, judge_all, runs);
+    over |= measure("judge_all, 63 asked components, once", asked_many, judge_all, 1);
     over |= measure("check, 256 components", last_of_many, check, runs);
     if (over) printf("more than the %d bytes of stack that the header says\n", JOUGSILVER_STACK);
     return over;

@@ -63,3 +63,7 @@ sheet = 14
 -- a place at which no component or task stands
 abbrev pub place : ℕ
 place = 15
+
+-- a pair that breaks the rules of pairs, or a record that may not stand behind a pair and does
+abbrev pub pair : ℕ
+pair = 16

@@ -30,3 +30,5 @@ pub const TRACE: u16 = 13;
 pub const SHEET: u16 = 14;
 // A place at which no component or task stands.
 pub const PLACE: u16 = 15;
+// A pair that breaks the rules of pairs, or a record that may not stand behind a pair and does.
+pub const PAIR: u16 = 16;

@@ -1,32 +1,23 @@
 // The calls of the crate `judge` (docs/CALLS.md), each answered by a function of its own.
-use budget::quantity::Units;
+pub mod shown;
+
 use calls::given;
 use calls::print;
 use calls::words;
 use judge::answer::Judged;
 use judge::answer::Margined;
 use judge::answer::Smallest;
-use judge::answer::Verdict;
 use judge::capacity;
 use judge::margin;
-use judge::signed;
 use judge::verdict;
-
-fn put_verdict(out: &mut [u8], found: Verdict, capacity: Units) -> usize {
-    match found {
-        Verdict::Accepted => print::put_said(out, 0, b"ok accepted", capacity.0),
-        Verdict::Short(instant) => {
-            let at = print::put_said(out, 0, b"ok short", instant.0);
-            print::put_long(out, at, capacity.0)
-        }
-        Verdict::None => print::put_said(out, 0, b"ok none", capacity.0),
-    }
-}
 
 fn put_judged(out: &mut [u8], answered: Judged) -> usize {
     match answered {
         Judged::Refused(refusal) => print::put_status(out, refusal),
-        Judged::Answered(capacity, found) => put_verdict(out, found, capacity),
+        Judged::Answered(capacity, found) => {
+            let at = print::put_status(out, 0);
+            shown::put_verdict(out, at, found, capacity)
+        }
     }
 }
 
@@ -48,20 +39,12 @@ fn capacity(line: &[u8], at: usize, out: &mut [u8]) -> usize {
     put_smallest(out, capacity::smallest_capacity(given.value))
 }
 
-fn put_least(out: &mut [u8], least: i32) -> usize {
-    if signed::is_negative(least) {
-        let at = print::put_text(out, 0, b"ok -");
-        return print::put_digits(out, at, signed::magnitude(least) as u64);
-    }
-    print::put_answer(out, 0, signed::magnitude(least))
-}
-
 fn put_margined(out: &mut [u8], answered: Margined) -> usize {
     match answered {
         Margined::Refused(refusal) => print::put_status(out, refusal),
-        Margined::Least(least, instant) => {
-            let at = put_least(out, least);
-            print::put_long(out, at, instant.0)
+        Margined::Least(_, _) => {
+            let at = print::put_status(out, 0);
+            shown::put_margin(out, at, answered)
         }
         Margined::None => print::put_text(out, 0, b"ok none"),
     }

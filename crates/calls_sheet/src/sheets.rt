@@ -6,6 +6,7 @@ use calls::shown;
 use calls::words;
 use sheet::check;
 use sheet::part;
+use transfer::pair;
 use transfer::read;
 use transfer::write;
 
@@ -42,6 +43,18 @@ fn read(line: &[u8], sheet: &[u8], start: usize, out: &mut [u8]) -> usize {
     put_reading(out, read::read_component(sheet, place.value as usize))
 }
 
+fn put_pair(out: &mut [u8], answered: pair::PairReading) -> usize {
+    let found = answered.pair;
+    let at = put_fault(out, answered.refusal, answered.place);
+    let at = print::put_number(out, at, found.child as u64);
+    print::put_number(out, at, found.parent as u64)
+}
+
+fn read_pair(line: &[u8], sheet: &[u8], start: usize, out: &mut [u8]) -> usize {
+    let place = words::read_number(line, start);
+    put_pair(out, pair::read_pair(sheet, place.value as usize))
+}
+
 // The answer to a call that is given a sheet, or 0 where the line is none.
 pub(crate) fn on_sheet(line: &[u8], sheet: &[u8], at: usize, out: &mut [u8]) -> usize {
     if words::is_word(line, b"sheet") {
@@ -52,6 +65,9 @@ pub(crate) fn on_sheet(line: &[u8], sheet: &[u8], at: usize, out: &mut [u8]) -> 
     }
     if words::is_word(line, b"read") {
         return read(line, sheet, at, out);
+    }
+    if words::is_word(line, b"read_pair") {
+        return read_pair(line, sheet, at, out);
     }
     0
 }
@@ -88,6 +104,24 @@ fn write_end(line: &[u8], start: usize, buffer: &mut [u8], out: &mut [u8]) -> us
     put_written(out, answered, part)
 }
 
+fn write_pair(line: &[u8], start: usize, buffer: &mut [u8], out: &mut [u8]) -> usize {
+    let child = words::read_number(line, start);
+    let parent = words::read_number(line, child.at);
+    let length = words::read_number(line, parent.at);
+    let at = words::read_number(line, length.at);
+    let end = length.value as usize;
+    if end > buffer.len() {
+        return 0;
+    }
+    let part = &mut buffer[0..end];
+    let given = pair::Pair {
+        child: (child.value % 65_536) as u16,
+        parent: (parent.value % 65_536) as u16,
+    };
+    let answered = pair::write_pair(part, at.value as usize, given);
+    put_written(out, answered, part)
+}
+
 fn into_buffer(line: &[u8], buffer: &mut [u8], out: &mut [u8]) -> usize {
     let at = words::after_word(line, 0);
     if words::is_word(line, b"write") {
@@ -95,6 +129,9 @@ fn into_buffer(line: &[u8], buffer: &mut [u8], out: &mut [u8]) -> usize {
     }
     if words::is_word(line, b"write_end") {
         return write_end(line, at, buffer, out);
+    }
+    if words::is_word(line, b"write_pair") {
+        return write_pair(line, at, buffer, out);
     }
     0
 }

@@ -1,2 +1,4 @@
+pub mod AllLaws
 pub mod AnswerLaws
+pub mod EntryLaws
 pub mod NoneIsZero

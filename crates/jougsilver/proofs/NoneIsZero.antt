@@ -19,19 +19,19 @@ use Rattle.judge.specs.Capacity.{capacityOf}
 use Rattle.judge.specs.Judged.{codeOf, judgedAt, verdictAnswer}
 use Rattle.judge.specs.Margin.{marginOn, marginedAt, marginAnswer}
 use Rattle.judge.specs.Verdict.{accepts, firstShort, verdictOn}
-use Rattle.jougsilver.specs.Answer.{verdictIn, replyOf, noneReply, NoneIsZero}
+use Rattle.jougsilver.specs.Answer.{verdictIn, judgedReply, bareReply, NoneIsZero}
 
 stated-never : (b : Bool) (t : Time) → codeOf (cond b Variant.Accepted (Variant.Short t)) ≡ 2 → ⊥
 stated-never true t e = omega (arith, e)
 stated-never false t e = omega (arith, e)
 
 asked-none : (b : Bool) (u : Units) (m : Margined) (n : ℕ) → codeOf (verdictIn (cond b (Answered u Variant.Accepted) (Answered (record { 0 = 0 }) Variant.None))) ≡ 2
-    → replyOf n (cond b (Answered u Variant.Accepted) (Answered (record { 0 = 0 }) Variant.None)) (cond b m NoMargin.None) ≡ noneReply n
-unfolding replyOf
+    → judgedReply n (cond b (Answered u Variant.Accepted) (Answered (record { 0 = 0 }) Variant.None)) (cond b m NoMargin.None) ≡ bareReply n 2
+unfolding judgedReply
 asked-none true u m n e = absurd (omega (arith, e))
 asked-none false u m n e = refl
 
-at-none : (c : Component) (k : Capacity) (n : ℕ) → codeOf (verdictIn (judgedAt c k)) ≡ 2 → replyOf n (judgedAt c k) (marginedAt c k) ≡ noneReply n
+at-none : (c : Component) (k : Capacity) (n : ℕ) → codeOf (verdictIn (judgedAt c k)) ≡ 2 → judgedReply n (judgedAt c k) (marginedAt c k) ≡ bareReply n 2
 unfolding judgedAt marginedAt verdictOn
 at-none c (Stated u) n e =
     let i = interfaceAt c (u .0) in

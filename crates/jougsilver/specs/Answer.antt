@@ -1,4 +1,4 @@
--- The reply on one component (RULES 14), from what the judge answers.
+-- The reply on one component (RULES 14), from what it is answered in its tree.
 use Prim.Native.Nat.{ℕ}
 use mathlib.Core.Bool.{cond}
 use mathlib.Core.List.{List}
@@ -18,10 +18,8 @@ use Rattle.judge.specs.Signed.{signedBits}
 use Rattle.record.specs.declared.reply.Reply.{Reply}
 use Rattle.transfer.specs.Reply.{replyBytes}
 use Rattle.transfer.specs.Writing.{roomRefusal}
-
-abbrev pub refusalOf : Judged → ℕ
-refusalOf (Refused n) = n
-refusalOf (Answered u v) = refusal.none
+use Rattle.tree.specs.declared.answer.Outcome.{Outcome}
+use Rattle.tree.specs.declared.answer.Outcome.the-variants as Outcome
 
 -- the capacity and the verdict of an answer; a refused component gets no reply, so what stands here for it is never written
 abbrev pub capacityIn : Judged → ℕ
@@ -33,8 +31,8 @@ verdictIn (Refused n) = Variant.None
 verdictIn (Answered u v) = v
 
 -- the fields in the reply's order; a margin instant of 0 stands where there is no margin
-unfoldable pub replyOf : ℕ → Judged → Margined → Reply
-replyOf number j m =
+unfoldable pub judgedReply : ℕ → Judged → Margined → Reply
+judgedReply number j m =
     record {
       number = number;
       code = codeOf (verdictIn j);
@@ -44,27 +42,42 @@ replyOf number j m =
       stands = record { 0 = marginInstantOf m };
     }
 
--- the bytes of the reply on a component
-unfoldable pub replyOn : Component → List ℕ
-replyOn c = replyBytes (replyOf (c .number) (verdictAnswer c) (marginAnswer c))
-
--- the component's own refusal comes before that of the room (RULES 13)
-unfoldable pub answerRefusal : Component → ℕ → ℕ → ℕ
-answerRefusal c room at = cond (eqb (componentRefusal c) refusal.none) (roomRefusal room at 24) (componentRefusal c)
-
--- a component that is answered none has a number and a code, and zeros behind them
-abbrev pub noneReply : ℕ → Reply
-noneReply number =
+-- a number and a code, and zeros behind them
+abbrev pub bareReply : ℕ → ℕ → Reply
+bareReply number code =
     record {
       number = number;
-      code = 2;
+      code = code;
       capacity = record { 0 = 0 };
       instant = record { 0 = 0 };
       margin = 0;
       stands = record { 0 = 0 };
     }
 
+-- one that waits has code 3
+unfoldable pub replyOf : ℕ → Outcome → Reply
+replyOf number Outcome.Waiting = bareReply number 3
+replyOf number (Outcome.Judged j m) = judgedReply number j m
+
+-- the bytes of the reply on a component of this number
+unfoldable pub replyOn : ℕ → Outcome → List ℕ
+replyOn number o = replyBytes (replyOf number o)
+
+-- the refusal of what a component is answered; one that waits has none
+abbrev pub refusalIn : Judged → ℕ
+refusalIn (Refused n) = n
+refusalIn (Answered u v) = refusal.none
+
+abbrev pub refusalOf : Outcome → ℕ
+refusalOf Outcome.Waiting = refusal.none
+refusalOf (Outcome.Judged j m) = refusalIn j
+
+-- the component's own refusal comes before that of the room (RULES 13)
+unfoldable pub answerRefusal : Outcome → ℕ → ℕ → ℕ
+answerRefusal o room at = cond (eqb (refusalOf o) refusal.none) (roomRefusal room at 24) (refusalOf o)
+
+-- a component that is answered none has a number and a code, and zeros behind them
 abbrev pub NoneIsZero : Type 0
 NoneIsZero =
     (c : Component) → componentRefusal c ≡ refusal.none → codeOf (verdictIn (verdictAnswer c)) ≡ 2
-    → replyOf (c .number) (verdictAnswer c) (marginAnswer c) ≡ noneReply (c .number)
+    → judgedReply (c .number) (verdictAnswer c) (marginAnswer c) ≡ bareReply (c .number) 2

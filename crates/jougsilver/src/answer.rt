@@ -1,25 +1,23 @@
-// The reply on one component, from the judge's answers.
-use budget::component::Component;
+// The reply on one component, from what it is answered in its tree.
 use budget::quantity::Time;
 use budget::quantity::Units;
 use budget::refusal;
 use judge::answer::Judged;
 use judge::answer::Margined;
 use judge::answer::Verdict;
-use judge::margin::margin;
 use judge::signed::twos_complement;
-use judge::verdict::verdict;
 use transfer::reply::Reply;
 use transfer::reply::write_reply;
+use tree::answer::Outcome;
 ghost use mathlib.Core.Path.{_≡_};
 ghost use lib.ListN.{length};
-ghost use Rattle.jougsilver.specs.Answer.{refusalOf, capacityIn, verdictIn, replyOf, replyOn, answerRefusal};
+ghost use Rattle.jougsilver.specs.Answer.{refusalIn, refusalOf, capacityIn, verdictIn, judgedReply, bareReply, replyOf, replyOn, answerRefusal};
 ghost use Rattle.judge.specs.Judged.{codeOf, instantOf};
 ghost use Rattle.judge.specs.Margin.{marginOf, marginInstantOf};
 ghost use Rattle.transfer.specs.Writing.{buffered};
 
-fn refusal_of(judged: Judged) -> u16
-    ensures { λ r. ⌜ r ≡ refusalOf judged ⌝ }
+fn refusal_in(judged: Judged) -> u16
+    ensures { λ r. ⌜ r ≡ refusalIn judged ⌝ }
 {
     match judged {
         Judged::Refused(number) => number,
@@ -85,8 +83,8 @@ fn margin_instant_of(margined: Margined) -> Time
     }
 }
 
-fn reply_of(number: u16, judged: Judged, margined: Margined) -> Reply
-    ensures { λ r. ⌜ r ≡ replyOf number judged margined ⌝ }
+fn judged_reply(number: u16, judged: Judged, margined: Margined) -> Reply
+    ensures { λ r. ⌜ r ≡ judgedReply number judged margined ⌝ }
 {
     let verdict = verdict_in(judged);
     let code = code_of(verdict);
@@ -104,19 +102,49 @@ fn reply_of(number: u16, judged: Judged, margined: Margined) -> Reply
     }
 }
 
-// Puts the reply on a component into the host's buffer from a place on, and answers 0 or the refusal: 10, then 11.
-pub(crate) fn answer(component: Component, reply: &mut [u8], at: usize) -> u16
-    ensures answer { λ r. ⌜ r ≡ answerRefusal component (length (now (reply .entry))) at ⌝ }
-    ensures bytes { λ _. ⌜ now (reply .exit) ≡ buffered (answerRefusal component (length (now (reply .entry))) at) (now (reply .entry)) at (replyOn component) ⌝ }
+fn waiting_reply(number: u16) -> Reply
+    ensures { λ r. ⌜ r ≡ bareReply number 3 ⌝ }
 {
-    let judged = verdict(component);
-    let refused = refusal_of(judged);
+    Reply {
+        number,
+        code: 3,
+        capacity: Units(0),
+        instant: Time(0),
+        margin: 0,
+        stands: Time(0),
+    }
+}
+
+// The reply on a component, in the order of its fields.
+pub(crate) fn reply_of(number: u16, outcome: Outcome) -> Reply
+    ensures { λ r. ⌜ r ≡ replyOf number outcome ⌝ }
+{
+    match outcome {
+        Outcome::Waiting => waiting_reply(number),
+        Outcome::Judged(judged, margined) => judged_reply(number, judged, margined),
+    }
+}
+
+// The refusal of a component that is judged: 10 or none; one that waits has none.
+pub(crate) fn refusal_of(outcome: Outcome) -> u16
+    ensures { λ r. ⌜ r ≡ refusalOf outcome ⌝ }
+{
+    match outcome {
+        Outcome::Waiting => refusal::NONE,
+        Outcome::Judged(judged, _) => refusal_in(judged),
+    }
+}
+
+// Puts the reply on a component into the host's buffer from a place on, and answers 0 or the refusal: 10, then 11.
+pub(crate) fn answer(number: u16, outcome: Outcome, reply: &mut [u8], at: usize) -> u16
+    ensures answer { λ r. ⌜ r ≡ answerRefusal outcome (length (now (reply .entry))) at ⌝ }
+    ensures bytes { λ _. ⌜ now (reply .exit) ≡ buffered (answerRefusal outcome (length (now (reply .entry))) at) (now (reply .entry)) at (replyOn number outcome) ⌝ }
+{
+    let refused = refusal_of(outcome);
     if refused != refusal::NONE {
         return refused;
     }
-    let margined = margin(component);
-    let number = component.number;
-    let fields = reply_of(number, judged, margined);
+    let fields = reply_of(number, outcome);
     let written = write_reply(reply, at, fields);
     written.refusal
 }

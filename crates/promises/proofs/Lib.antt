@@ -4,6 +4,7 @@ pub mod DemandBound
 pub mod EarliestDeadline
 pub mod Figures
 pub mod Ground
+pub mod Joined
 pub mod Judging
 pub mod NoMiss
 pub mod Serving

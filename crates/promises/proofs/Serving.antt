@@ -20,17 +20,17 @@ use Rattle.run.proofs.Next.{then-waits, waits-then}
 use Rattle.run.proofs.RunLaws.{left-length}
 use Rattle.trace.specs.Legal.{zerosAndOnes}
 use Rattle.trace.proofs.Periods.{bit}
-use Rattle.promises.specs.inner.Serving.{UrgentFirst, leftOf, asked, waitingAt, unitOf, Flow}
+use Rattle.promises.specs.inner.Serving.{ServedWaits, UrgentFirst, leftOf, asked, waitingAt, unitOf, Flow}
 use Rattle.promises.proofs.Sums.{Left, left-found, left-below-suc, left-serve, left-serve-le}
 
 positive : (b : ℕ) → b ≤ 1 → eqb b 0 ≡ false → b ≡ 1
 positive b h e = let d : b ≢ 0 = eqb-false b 0 e in omega arith
 
 module _ (rule : Rule) (js : List Job) (s : List ℕ) where
-  module _ (urgent : Job → Bool) (first : UrgentFirst urgent js rule) where
+  module _ (waiting : ServedWaits js rule) where
     elsewhere : (n q : ℕ) (left : List ℕ) → q < length js → suc n ≤ ready (getD js q noJob) → q ≢ rule n left
     elsewhere n q left l h e =
-        let w = waits-then n _ _ (first .waiting n left (rw (← e) l)) .is-ready in
+        let w = waits-then n _ _ (waiting n left (rw (← e) l)) .is-ready in
         let r : ready (getD js q noJob) ≤ n = rw e w in
         omega arith
 
@@ -46,6 +46,7 @@ module _ (rule : Rule) (js : List Job) (s : List ℕ) where
     untouched (suc n) q l h =
         untouched-slot (eqb (getD s n 0) 0) (leftBy rule js s n) _ q _ (elsewhere n q _ l h) (untouched n q l (omega arith))
 
+  module _ (urgent : Job → Bool) (first : UrgentFirst urgent js rule) where
     -- a supplied slot takes one unit of the urgent work that waits, if there is any
     module _ (n : ℕ) (left : List ℕ) where
       abbrev ripe : Job → Bool
@@ -80,7 +81,7 @@ module _ (rule : Rule) (js : List Job) (s : List ℕ) where
     goes bits n =
         let left = leftBy rule js s n in
         given n left (unitOf s n) (bit s bits 0 zero-le n) _ refl
-        ∙ ap (λ (w : ℕ). w - unitOf s n) (left-below-suc ready urgent js left n (left-length rule js s n) (λ q l e. untouched n q l (le-of-eq (sym e))))
+        ∙ ap (λ (w : ℕ). w - unitOf s n) (left-below-suc ready urgent js left n (left-length rule js s n) (λ q l e. untouched (first .waiting) n q l (le-of-eq (sym e))))
 
     begins : waitingAt urgent rule js s 0 ≡ 0
     unfolding waitingAt

@@ -1,63 +1,27 @@
 -- The synchronous arrival is legal, and the work of its jobs due by t is at least the demand at t.
 -- Each job's release is a multiple of its task's T, so that two of one task lie T apart; of the multiples c·T with c·T + D ≤ t there are
 -- as many as the demand counts, and the sum over the slots meets each.
-use Prim.Native.Nat.{ℕ, zero, suc, _+_, _*_, _/_, _%_, _≤_, _<_}
-use mathlib.Core.Bool.{Bool, true, false, cond, not, _&&_, _||_}
-use mathlib.Core.List.{List, [], _∷_, _++_}
+use Prim.Native.Nat.{ℕ, zero, suc, _+_, _*_, _%_, _≤_, _<_}
+use mathlib.Core.Bool.{Bool, true, false, cond, not, _||_}
+use mathlib.Core.List.{List, [], _∷_}
 use mathlib.Core.Path.{_≡_, refl}
 use lib.Dec.{leb, eqb}
 use lib.ListN.{length, getD}
 use borrow.Author.Tests.{eqb-true, le-leb, lt-ltb, le-ltb, eq-eqb, ne-eqb}
-use native.Mathlib.Nat.{add-zero, add-suc, zero-add, suc-add, div-add-mod', le-refl, le-trans, lt-of-mul-lt-mul-right, mul-le-mul-right, mul-mod-left}
+use native.Mathlib.Nat.{add-zero, add-suc, zero-add, suc-add, le-refl, le-trans, mul-mod-left}
 use native.Mathlib.Omega.{arith}
 use Rattle.budget.specs.declared.task.Task.{Task}
 use Rattle.budget.specs.Demand.{demand, jobsBy}
 use Rattle.budget.specs.Task.{T, C, D, noTask, validTasks}
 use Rattle.budget.proofs.DemandLaws.{jobs-due}
-use Rattle.budget.proofs.Valid.{ValidTask, and-true, both, valid-at, valid-head, valid-tail}
-use Rattle.run.specs.Job.{Job, apart, beforeAll, deadline, inOrder, legalArrival, taskOf, validJob}
+use Rattle.budget.proofs.Valid.{ValidTask, and-true, valid-at, valid-head, valid-tail}
+use Rattle.run.specs.Job.{Job, apart, deadline, inOrder, legalArrival, taskOf, validJob}
 use Rattle.trace.specs.Units.{units}
 use Rattle.trace.proofs.Units.{units-same}
 use Rattle.promises.specs.inner.Serving.{dueBy, workOf}
 use Rattle.promises.specs.Synchronous.{releasedAt, synchronous}
+use Rattle.promises.proofs.Joined.{Every, Follows, before-all, every-append, every-map, legal-append, multiples-apart}
 use Rattle.promises.proofs.Sums.{sum-add, sum-longer, work-append}
-
--- a job before another in a legal arrival
-abbrev Follows : List Task → Job → Job → Type 0
-Follows ks a b = (inOrder a b && apart ks a b) ≡ true
-
-abbrev Every : (Job → Type 0) → List Job → Type 0
-Every P [] = Unit {0}
-Every P (j ∷ js) = P j × Every P js
-
-every-append : (P : Job → Type 0) (xs ys : List Job) → Every P xs → Every P ys → Every P (xs ++ ys)
-every-append P [] ys a b = b
-every-append P (x ∷ xs) ys a b = (a .0, every-append P xs ys (a .1) b)
-
-every-map : (P Q : Job → Type 0) → ((j : Job) → P j → Q j) → (xs : List Job) → Every P xs → Every Q xs
-every-map P Q f [] a = tt
-every-map P Q f (x ∷ xs) a = (f x (a .0), every-map P Q f xs (a .1))
-
-before-all : (ks : List Task) (a : Job) (js : List Job) → Every (Follows ks a) js → beforeAll ks a js ≡ true
-unfolding beforeAll
-before-all ks a [] h = refl
-before-all ks a (b ∷ js) h = and-true (h .0) (before-all ks a js (h .1))
-
-before-append : (ks : List Task) (a : Job) (xs ys : List Job) → beforeAll ks a xs ≡ true → beforeAll ks a ys ≡ true → beforeAll ks a (xs ++ ys) ≡ true
-unfolding beforeAll
-before-append ks a [] ys e f = f
-before-append ks a (x ∷ xs) ys e f =
-    let x = both (inOrder a x && apart ks a x) _ e in
-    and-true (x .0) (before-append ks a xs ys (x .1) f)
-
-legal-append : (ks : List Task) (xs ys : List Job) → legalArrival ks xs ≡ true → legalArrival ks ys ≡ true
-    → Every (λ a. Every (Follows ks a) ys) xs → legalArrival ks (xs ++ ys) ≡ true
-unfolding legalArrival
-legal-append ks [] ys e f h = f
-legal-append ks (j ∷ xs) ys e f h =
-    let x = both (validJob ks j) _ e in
-    let y = both (beforeAll ks j xs) _ (x .1) in
-    and-true (x .0) (and-true (before-append ks j xs ys (y .0) (before-all ks j ys (h .0))) (legal-append ks xs ys (y .1) f (h .1)))
 
 -- a job of the arrival: all of its task's work, at a multiple of the task's period
 record Periodic (ks : List Task) (j : Job) : Type 0 where
@@ -148,14 +112,6 @@ legal-slot : (all : List Task) → validTasks all ≡ true → (ks : List Task) 
 unfolding releasedAt legalArrival
 legal-slot all v [] i n f = refl
 legal-slot all v (k ∷ ks) i n f = legal-slot-step all v k ks i n _ refl f (legal-slot all v ks (suc i) n (from-next all k ks i f))
-
--- two multiples of T lie T apart
-multiples-apart : (m n t : ℕ) → m % t ≡ 0 → n % t ≡ 0 → m < n → m + t ≤ n
-multiples-apart m n t a b l =
-    let x = div-add-mod' m t in
-    let y = div-add-mod' n t in
-    let q : m / t < n / t = lt-of-mul-lt-mul-right t (omega arith) in
-    omega (arith, mul-le-mul-right t q)
 
 same-task : (ks : List Task) (a b : Job) → Periodic ks a → Periodic ks b → a .release < b .release → (same : Bool) → eqb (a .task) (b .task) ≡ same
     → (not same || leb (a .release + T (taskOf ks a)) (b .release)) ≡ true

@@ -10,10 +10,10 @@ use Rattle.budget.specs.declared.component.Capacity.{Capacity}
 use Rattle.budget.specs.declared.component.Capacity.the-variants.{Stated, Asked}
 use Rattle.record.specs.declared.layout.Head.{Head}
 use Rattle.record.specs.declared.layout.Record.{Record}
-use Rattle.record.specs.declared.layout.Record.the-variants.{ComponentRecord, TaskRecord, EndRecord, NoRecord}
+use Rattle.record.specs.declared.layout.Record.the-variants.{ComponentRecord, TaskRecord, PairRecord, EndRecord, NoRecord}
 use Rattle.record.specs.Field.{encode, field}
 use Rattle.record.specs.Row.{rowLength, rowBytes, valuesAt}
-use Rattle.record.specs.Layout.{rowOf, recordWith, headBytes, taskBytes, endBytes, recordBytes, headSize, sizeOf, ofKind, recordOf}
+use Rattle.record.specs.Layout.{rowOf, recordWith, headBytes, taskBytes, pairBytes, endBytes, recordBytes, headSize, sizeOf, ofKind, recordOf}
 use Rattle.record.specs.inner.Fields.{headKind, headFields, kindOf, fieldsOf, headed}
 use Rattle.record.proofs.Cases.{cases}
 use Rattle.record.proofs.KindLaws.{by-kind}
@@ -30,7 +30,7 @@ module _ (s : List ℕ) where
   with-kind : (vs : List ℕ) (k : ℕ) → rowLength (rowOf k) ≤ length s → Within (recordWith k vs)
   unfolding rowOf recordWith sizeOf headSize
   with-kind vs =
-      by-kind (λ (k : ℕ). rowLength (rowOf k) ≤ length s → Within (recordWith k vs)) (λ h. h) (λ h. h) (λ h. h) (λ h. h)
+      by-kind (λ (k : ℕ). rowLength (rowOf k) ≤ length s → Within (recordWith k vs)) (λ h. h) (λ h. h) (λ h. h) (λ h. h) (λ h. h)
       (λ k u h. rw (u .reads vs) (no-record refusal.kind))
 
   of-kind : (kind size : ℕ) → Within (ofKind s kind size)
@@ -58,9 +58,10 @@ size-head (Stated u) = refl
 size-head Asked = refl
 
 pub record-row : (r : Record) → recordBytes r ≡ rowBytes (rowOf (kindOf r)) (headed (rowOf (kindOf r)) (kindOf r) (fieldsOf r))
-unfolding recordBytes headBytes taskBytes endBytes rowOf encode
+unfolding recordBytes headBytes taskBytes pairBytes endBytes rowOf encode
 record-row (ComponentRecord h) = head-row h (h .capacity)
 record-row (TaskRecord k) = refl
+record-row (PairRecord p) = refl
 record-row (EndRecord n) = refl
 record-row (NoRecord n) = refl
 
@@ -68,6 +69,7 @@ pub size-row : (r : Record) → sizeOf r ≡ rowLength (rowOf (kindOf r))
 unfolding sizeOf headSize rowOf
 size-row (ComponentRecord h) = size-head (h .capacity)
 size-row (TaskRecord k) = refl
+size-row (PairRecord p) = refl
 size-row (EndRecord n) = refl
 size-row (NoRecord n) = refl
 

@@ -13,11 +13,12 @@ use Rattle.budget.specs.declared.task.Task.{Task}
 use Rattle.budget.specs.Component.{unitsOf}
 use Rattle.budget.specs.Task.{T, C, D}
 use Rattle.record.specs.declared.layout.Head.{Head}
+use Rattle.record.specs.declared.layout.Pair.{Pair}
 use Rattle.record.specs.declared.layout.Record.{Record}
-use Rattle.record.specs.declared.layout.Record.the-variants.{ComponentRecord, TaskRecord, EndRecord, NoRecord}
+use Rattle.record.specs.declared.layout.Record.the-variants.{ComponentRecord, TaskRecord, PairRecord, EndRecord, NoRecord}
 use Rattle.record.specs.Field.{encode, field, Bytes}
 use Rattle.record.specs.Row.{rowLength, rowBytes, valuesAt}
-use Rattle.record.specs.Layout.{statedRow, askedRow, rowOf, framed, headBytes, taskBytes, endBytes, recordBytes, headSize, recordWith, ofKind, recordOf}
+use Rattle.record.specs.Layout.{statedRow, askedRow, pairRow, rowOf, framed, headBytes, taskBytes, pairBytes, endBytes, recordBytes, headSize, recordWith, ofKind, recordOf}
 use Rattle.record.proofs.Cases.{cases}
 use Rattle.record.proofs.RowLaws.{Fit, row-length, values-back, bytes-back, values-fit}
 use Rattle.record.proofs.KindLaws.{by-kind}
@@ -26,10 +27,11 @@ use Rattle.record.proofs.KindLaws.{by-kind}
 abbrev pub head : ℕ → ℕ → Capacity → ℕ → Head
 head number period c deadline = record { number = number; period = record { 0 = period }; capacity = c; deadline = record { 0 = deadline } }
 
--- what a row of bytes is, where a record was read at its front: the record's bytes and then the rest; a component's number is one of 2 bytes, and no refusal is 0
+-- what a row of bytes is, where a record was read at its front: the record's bytes and then the rest; a component's number and those of a pair are of 2 bytes, and no refusal is 0
 abbrev pub Faithful : List ℕ → Record → Type 0
 Faithful s (ComponentRecord h) = (h .number < 65_536) × (s ≡ recordBytes (ComponentRecord h) ++ drop (headSize (h .capacity)) s)
 Faithful s (TaskRecord k) = s ≡ taskBytes k ++ drop 16 s
+Faithful s (PairRecord p) = (p .child < 65_536) × ((p .parent < 65_536) × (s ≡ pairBytes p ++ drop 8 s))
 Faithful s (EndRecord n) = s ≡ endBytes n ++ drop 6 s
 Faithful s (NoRecord n) = n ≡ 0 → ⊥
 
@@ -49,13 +51,14 @@ module _ (s : List ℕ) (bytes : Bytes s) where
       → Faithful s (recordWith k (valuesAt (rowOf k) s 0))
 
   with-kind : (k : ℕ) → Kept k
-  unfolding rowOf recordWith recordBytes headBytes taskBytes endBytes headSize encode
+  unfolding rowOf recordWith recordBytes headBytes taskBytes pairBytes endBytes headSize encode
   with-kind =
       by-kind Kept
       (λ l h e f. (values-fit statedRow s 0 bytes .1 .1 .0, opened (2 ∷ 4 ∷ 4 ∷ 4 ∷ 0 ∷ 0 ∷ []) 18 1 h e f))
       (λ l h e f. opened (4 ∷ 4 ∷ 4 ∷ 0 ∷ 0 ∷ 0 ∷ []) 16 2 h e f)
       (λ l h e f. opened (2 ∷ 0 ∷ 0 ∷ 0 ∷ 0 ∷ 0 ∷ []) 6 3 h e f)
       (λ l h e f. (values-fit askedRow s 0 bytes .1 .1 .0, opened (2 ∷ 4 ∷ 4 ∷ 0 ∷ 0 ∷ 0 ∷ []) 14 4 h e f))
+      (λ l h e f. let fit = values-fit pairRow s 0 bytes .1 .1 in (fit .0, (fit .1 .0, opened (2 ∷ 2 ∷ 0 ∷ 0 ∷ 0 ∷ 0 ∷ []) 8 6 h e f)))
       (λ k u l h e f. absurd (l (ap rowLength (u .row))))
 
   of-kind : Faithful s (ofKind s (field s 2 2) (field s 0 2))
@@ -101,6 +104,12 @@ module _ (rest : List ℕ) where
   end-back n h =
       record-back 3 (2 ∷ 0 ∷ 0 ∷ 0 ∷ 0 ∷ 0 ∷ []) (n ∷ 0 ∷ 0 ∷ 0 ∷ 0 ∷ 0 ∷ []) rest refl
       (omega arith, (omega arith, (h, (omega arith, (omega arith, (omega arith, (omega arith, (omega arith, (tt)))))))))
+
+  pub pair-back : (p : Pair) → p .child < 256 ^ 2 → p .parent < 256 ^ 2 → recordOf (pairBytes p ++ rest) ≡ PairRecord p
+  unfolding rowOf pairBytes recordWith
+  pair-back p c q =
+      record-back 6 (2 ∷ 2 ∷ 0 ∷ 0 ∷ 0 ∷ 0 ∷ []) (p .child ∷ p .parent ∷ 0 ∷ 0 ∷ 0 ∷ 0 ∷ []) rest refl
+      (omega arith, (omega arith, (c, (q, (omega arith, (omega arith, (omega arith, (omega arith, tt))))))))
 
   pub head-back : (number period : ℕ) (c : Capacity) (deadline : ℕ) → number < 256 ^ 2 → period < 256 ^ 4 → unitsOf c < 256 ^ 4 → deadline < 256 ^ 4 → recordOf (headBytes number period c deadline ++ rest) ≡ ComponentRecord (head number period c deadline)
   unfolding rowOf headBytes recordWith

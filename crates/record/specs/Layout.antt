@@ -10,8 +10,9 @@ use Rattle.budget.specs.declared.task.Task.{Task}
 use Rattle.budget.specs.Refusal as refusal
 use Rattle.budget.specs.Task.{T, C, D}
 use Rattle.record.specs.declared.layout.Head.{Head}
+use Rattle.record.specs.declared.layout.Pair.{Pair}
 use Rattle.record.specs.declared.layout.Record.{Record}
-use Rattle.record.specs.declared.layout.Record.the-variants.{ComponentRecord, TaskRecord, EndRecord, NoRecord}
+use Rattle.record.specs.declared.layout.Record.the-variants.{ComponentRecord, TaskRecord, PairRecord, EndRecord, NoRecord}
 use Rattle.record.specs.Field.{field}
 use Rattle.record.specs.Row.{rowLength, rowBytes, valuesAt}
 
@@ -29,6 +30,9 @@ endRow = 2 ∷ 2 ∷ 2 ∷ 0 ∷ 0 ∷ 0 ∷ 0 ∷ 0 ∷ []
 abbrev pub askedRow : List ℕ
 askedRow = 2 ∷ 2 ∷ 2 ∷ 4 ∷ 4 ∷ 0 ∷ 0 ∷ 0 ∷ []
 
+abbrev pub pairRow : List ℕ
+pairRow = 2 ∷ 2 ∷ 2 ∷ 2 ∷ 0 ∷ 0 ∷ 0 ∷ 0 ∷ []
+
 -- a kind that isn't in the list has no fields
 abbrev pub noRow : List ℕ
 noRow = 0 ∷ 0 ∷ 0 ∷ 0 ∷ 0 ∷ 0 ∷ 0 ∷ 0 ∷ []
@@ -38,7 +42,8 @@ rowOf kind =
     cond (eqb kind 1) statedRow
     (cond (eqb kind 2) taskRow
     (cond (eqb kind 3) endRow
-    (cond (eqb kind 4) askedRow noRow)))
+    (cond (eqb kind 4) askedRow
+    (cond (eqb kind 6) pairRow noRow))))
 
 -- ---- the bytes of each record
 
@@ -53,12 +58,17 @@ headBytes number period Asked deadline = framed 4 askedRow (number ∷ period �
 unfoldable pub taskBytes : Task → List ℕ
 taskBytes k = framed 2 taskRow (T k ∷ C k ∷ D k ∷ [])
 
+-- the child's number, then its parent's
+unfoldable pub pairBytes : Pair → List ℕ
+pairBytes p = framed 6 pairRow (p .child ∷ p .parent ∷ [])
+
 unfoldable pub endBytes : ℕ → List ℕ
 endBytes count = framed 3 endRow (count ∷ [])
 
 unfoldable pub recordBytes : Record → List ℕ
 recordBytes (ComponentRecord h) = headBytes (h .number) (h .period .0) (h .capacity) (h .deadline .0)
 recordBytes (TaskRecord k) = taskBytes k
+recordBytes (PairRecord p) = pairBytes p
 recordBytes (EndRecord count) = endBytes count
 recordBytes (NoRecord n) = []
 
@@ -70,6 +80,7 @@ headSize Asked = rowLength askedRow
 unfoldable pub sizeOf : Record → ℕ
 sizeOf (ComponentRecord h) = headSize (h .capacity)
 sizeOf (TaskRecord k) = rowLength taskRow
+sizeOf (PairRecord p) = rowLength pairRow
 sizeOf (EndRecord count) = rowLength endRow
 sizeOf (NoRecord n) = 0
 
@@ -96,13 +107,17 @@ askedOf vs =
 abbrev pub taskOf : List ℕ → Task
 taskOf vs = record { period = record { 0 = getD vs 2 0 }; work = record { 0 = getD vs 3 0 }; deadline = record { 0 = getD vs 4 0 } }
 
+abbrev pub pairOf : List ℕ → Pair
+pairOf vs = record { child = getD vs 2 0; parent = getD vs 3 0 }
+
 -- the record of a kind with these values
 unfoldable pub recordWith : ℕ → List ℕ → Record
 recordWith kind vs =
     cond (eqb kind 1) (ComponentRecord (statedOf vs))
     (cond (eqb kind 2) (TaskRecord (taskOf vs))
     (cond (eqb kind 3) (EndRecord (getD vs 2 0))
-    (cond (eqb kind 4) (ComponentRecord (askedOf vs)) (NoRecord refusal.kind))))
+    (cond (eqb kind 4) (ComponentRecord (askedOf vs))
+    (cond (eqb kind 6) (PairRecord (pairOf vs)) (NoRecord refusal.kind)))))
 
 -- ---- the record that begins a row of bytes
 

@@ -12,7 +12,7 @@ use budget::task::Task;
 ghost use mathlib.Core.Path.{_≡_};
 ghost use Prim.Native.Nat.{_<_};
 ghost use lib.ListN.{getD};
-ghost use Rattle.record.specs.Layout.{rowOf, recordWith, ofKind, recordOf, taskOf, statedOf, askedOf};
+ghost use Rattle.record.specs.Layout.{rowOf, recordWith, ofKind, recordOf, taskOf, statedOf, askedOf, pairOf};
 ghost use Rattle.record.specs.inner.Narrow.{Held};
 
 // What a component record says: the component without its tasks.
@@ -23,10 +23,17 @@ pub struct Head {
     pub deadline: Time,
 }
 
+// What a pair record says: the number of a component, and that of the one it is inside.
+pub struct Pair {
+    pub child: u16,
+    pub parent: u16,
+}
+
 // What begins at a place of a sheet: a record, or the refusal where none does.
 pub enum Record {
     ComponentRecord(Head),
     TaskRecord(Task),
+    PairRecord(Pair),
     EndRecord(u16),
     NoRecord(u16),
 }
@@ -40,6 +47,8 @@ pub(crate) const END: u16 = 3;
 
 pub(crate) const ASKED: u16 = 4;
 
+pub(crate) const PAIR: u16 = 6;
+
 // The widths of a kind's fields: length, kind, then what it says; a kind that is not in the list has none.
 pub(crate) fn row_of(kind: u16) -> Row
     ensures { λ r. ⌜ r ≡ rowOf kind ⌝ }
@@ -49,6 +58,7 @@ pub(crate) fn row_of(kind: u16) -> Row
         TASK => [2, 2, 4, 4, 4, 0, 0, 0],
         END => [2, 2, 2, 0, 0, 0, 0, 0],
         ASKED => [2, 2, 2, 4, 4, 0, 0, 0],
+        PAIR => [2, 2, 2, 2, 0, 0, 0, 0],
         _ => [0, 0, 0, 0, 0, 0, 0, 0],
     }
 }
@@ -95,6 +105,16 @@ fn task_of(values: Values) -> Task
     }
 }
 
+fn pair_of(values: Values) -> Pair
+    requires { ⌜ (getD values 2 0 < 65_536) × (getD values 3 0 < 65_536) ⌝ }
+    ensures { λ r. ⌜ r ≡ pairOf values ⌝ }
+{
+    Pair {
+        child: number(values[2]),
+        parent: number(values[3]),
+    }
+}
+
 // The record of a kind with these values.
 fn record_with(kind: u16, values: Values) -> Record
     requires { ⌜ Held (rowOf kind) values ⌝ }
@@ -105,6 +125,7 @@ fn record_with(kind: u16, values: Values) -> Record
         TASK => Record::TaskRecord(task_of(values)),
         END => Record::EndRecord(number(values[2])),
         ASKED => Record::ComponentRecord(asked_of(values)),
+        PAIR => Record::PairRecord(pair_of(values)),
         _ => Record::NoRecord(refusal::KIND),
     }
 }

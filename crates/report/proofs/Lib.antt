@@ -1,5 +1,5 @@
 pub mod Digits
-pub mod OnlyLong
 pub mod Pages
 pub mod Puts
 pub mod SignedText
+pub mod Unpaired

@@ -1,5 +1,5 @@
 -- A line put into a page: what was put at the front of a line is its first bytes, and these go behind what the page holds.
-use Prim.Native.Nat.{ℕ, _+_, _≤_, _<_}
+use Prim.Native.Nat.{ℕ, _+_, _≤_}
 use native.Mathlib.Numerals.{add-one}
 use native.Mathlib.Omega.{arith}
 use mathlib.Core.Path.{_≡_, refl, sym, ap, subst, _∙_}
@@ -10,17 +10,14 @@ use lib.Seq.{sets, length-sets, sets-eq, take-at}
 use Rattle.budget.specs.declared.component.Component.{Component}
 use Rattle.budget.specs.Refusal as refusal
 use Rattle.sheet.specs.declared.check.Checked.{Checked}
-use Rattle.sheet.specs.declared.contents.Contents.{Contents}
 use Rattle.sheet.specs.Check.{check}
-use Rattle.sheet.specs.Contents.{contentsOf}
-use Rattle.sheet.proofs.ContentsLaws.{taken}
-use Rattle.transfer.specs.ReadAt.{readAt}
 use Rattle.transfer.specs.Reading.{reading}
-use Rattle.transfer.proofs.ReadAt.{read-at-reads}
-use Rattle.transfer.proofs.StoreLaws.{sets-append}
+use Rattle.record.proofs.StoreLaws.{sets-append}
+use Rattle.tree.specs.declared.answer.Outcome.{Outcome}
+use Rattle.tree.specs.Tree.{outcomeAt}
 use Rattle.report.specs.Lines.{componentLine, endLine, refusedLine}
 use Rattle.report.specs.Listing.{Listed, componentLines, listingOf}
-use Rattle.report.specs.inner.Paged.{Known, Lines, Paged}
+use Rattle.report.specs.inner.Paged.{Lines, Paged}
 use Rattle.report.specs.inner.Put.{Put}
 
 -- the first bytes of a line are what was put there
@@ -48,35 +45,18 @@ pub no-lines : (s page : List ℕ) → Lines s page 0 page 0
 unfolding componentLines
 no-lines s page = record { place = refl; bytes = refl; room = omega arith }
 
-pub one-more-line : (s page : List ℕ) (k : ℕ) {now after : List ℕ} {at r : ℕ} (c : Component) → c ≡ reading s k .component
-    → Lines s page k now at → Paged now at (componentLine c) after r → Lines s page (k + 1) after r
+pub one-more-line : (s page : List ℕ) (k : ℕ) {now after : List ℕ} {at r : ℕ} (c : Component) (o : Outcome) → c ≡ reading s k .component → o ≡ outcomeAt s k
+    → Lines s page k now at → Paged now at (componentLine (c .number) o) after r → Lines s page (k + 1) after r
 unfolding componentLines
-one-more-line s page k {now} {after} {at} {r} c e l p =
+one-more-line s page k {now} {after} {at} {r} c o is judged l p =
     let lines = componentLines s k in
-    let line = componentLine c in
-    let next : componentLines s (k + 1) ≡ lines ++ line = rw (add-one, ← e) in
+    let line = componentLine (c .number) o in
+    let next : componentLines s (k + 1) ≡ lines ++ line = rw (add-one, ← is, ← judged) in
     record {
       place = omega (arith, p .place, l .place, ap length next, length-append lines line);
       bytes = behind page lines (l .place) (l .bytes) p ∙ ap (λ (xs : List ℕ). sets page 0 xs) (sym next);
       room = omega (arith, p .place, p .short, l .room);
     }
-
--- what is read between the edges that are known is the reading at that place
-pub known-reading : {s edges : List ℕ} {count : ℕ} → Known s edges count → (k : ℕ) → k < count → (c : Component) → c ≡ readAt s edges k → c ≡ reading s k .component
-known-reading {s} {edges} {count} w k h c e =
-    e ∙ (ap (λ (xs : List ℕ). readAt s xs k) (w .edges) ∙ read-at-reads s (w .taken) k (omega (arith, w .count)))
-
-pub known-few : {s edges : List ℕ} {count : ℕ} → Known s edges count → count ≤ 256
-known-few {s} w = omega (arith, w .count, taken s (w .taken) .few)
-
-pub checked-is : (s : List ℕ) (x : Contents) → x ≡ contentsOf s → x .checked ≡ check s
-unfolding contentsOf
-checked-is s x e = ap (λ (y : Contents). y .checked) e
-
-pub known : (s : List ℕ) (x : Contents) → x ≡ contentsOf s → x .checked .refusal ≡ refusal.none → Known s (x .edges) (x .checked .count)
-known s x e h =
-    let same = checked-is s x e in
-    record { taken = sym (ap (λ (d : Checked). d .refusal) same) ∙ h; edges = ap (λ (y : Contents). y .edges) e; count = ap (λ (d : Checked). d .count) same }
 
 module _ (s page : List ℕ) (d : Checked) (is : d ≡ check s) where
   pub refused-listing : (d .refusal ≡ refusal.none → ⊥) → {after : List ℕ} {r : ℕ} → Paged page 0 (refusedLine (d .refusal) (d .place)) after r

@@ -6,7 +6,7 @@ use mathlib.Core.Path.{_≡_, sym, ap, _∙_}
 use mathlib.Core.List.{List, [], _∷_, _++_}
 use lib.ListN.{length, getD, set, take, length-append}
 use lib.Seq.{sets, take-suc, length-take-le, take-all}
-use Rattle.transfer.proofs.StoreLaws.{sets-append}
+use Rattle.record.proofs.StoreLaws.{sets-append}
 use Rattle.report.specs.inner.Put.{Put}
 
 -- one store more

@@ -1,7 +1,6 @@
 -- The lines of the listing (RULES 15), as lists of bytes.
 use Prim.Native.Nat.{ℕ}
 use mathlib.Core.List.{List, [], _∷_, _++_}
-use Rattle.budget.specs.declared.component.Component.{Component}
 use Rattle.budget.specs.declared.quantity.Units.{Units}
 use Rattle.judge.specs.declared.answer.Judged.{Judged}
 use Rattle.judge.specs.declared.answer.Judged.the-variants as Judged
@@ -9,8 +8,8 @@ use Rattle.judge.specs.declared.answer.Margined.{Margined}
 use Rattle.judge.specs.declared.answer.Margined.the-variants as Margined
 use Rattle.judge.specs.declared.answer.Verdict.{Verdict}
 use Rattle.judge.specs.declared.answer.Verdict.the-variants as Verdict
-use Rattle.judge.specs.Judged.{verdictAnswer}
-use Rattle.judge.specs.Margin.{marginAnswer}
+use Rattle.tree.specs.declared.answer.Outcome.{Outcome}
+use Rattle.tree.specs.declared.answer.Outcome.the-variants as Outcome
 use Rattle.report.specs.Text.{decimal, signedText, spaced}
 
 -- the fields behind a line's first, each behind a single space, and the newline
@@ -37,6 +36,9 @@ none-word = 110 ∷ 111 ∷ 110 ∷ 101 ∷ []
 abbrev pub long-word : List ℕ
 long-word = 108 ∷ 111 ∷ 110 ∷ 103 ∷ []
 
+abbrev pub waiting-word : List ℕ
+waiting-word = 119 ∷ 97 ∷ 105 ∷ 116 ∷ 105 ∷ 110 ∷ 103 ∷ []
+
 abbrev pub dash-word : List ℕ
 dash-word = 45 ∷ []
 
@@ -56,14 +58,19 @@ verdictFields capacity Verdict.Accepted margined = accepted-word ∷ decimal (ca
 verdictFields capacity (Verdict.Short instant) margined = short-word ∷ decimal (capacity .0) ∷ decimal (instant .0) ∷ marginFields margined
 verdictFields capacity Verdict.None margined = none-word ∷ []
 
--- a component that the judge refuses is long: 10 is the only refusal of one that stands in a taken sheet (OnlyLong)
+-- a component that the judge refuses is long: 10 is the only refusal of one that stands in a taken sheet (OnlyLong of crate tree)
 unfoldable pub answerFields : Judged → Margined → List (List ℕ)
 answerFields (Judged.Refused number) margined = long-word ∷ []
 answerFields (Judged.Answered capacity verdict) margined = verdictFields capacity verdict margined
 
+-- in its tree a component may have to wait
+unfoldable pub outcomeFields : Outcome → List (List ℕ)
+outcomeFields Outcome.Waiting = waiting-word ∷ []
+outcomeFields (Outcome.Judged judged margined) = answerFields judged margined
+
 -- a component's line begins with its number
-unfoldable pub componentLine : Component → List ℕ
-componentLine c = decimal (c .number) ++ behind (answerFields (verdictAnswer c) (marginAnswer c))
+unfoldable pub componentLine : ℕ → Outcome → List ℕ
+componentLine number outcome = decimal number ++ behind (outcomeFields outcome)
 
 -- the last line of a taken sheet
 unfoldable pub endLine : ℕ → List ℕ

@@ -1,5 +1,5 @@
 -- The whole listing of a sheet (RULES 15), as a list of bytes.
-use Prim.Native.Nat.{ℕ, zero, suc, _≤_}
+use Prim.Native.Nat.{ℕ, zero, suc, _≤_, _<_}
 use mathlib.Core.Bool.{cond}
 use mathlib.Core.List.{List, [], _++_}
 use mathlib.Core.Path.{_≡_}
@@ -7,14 +7,19 @@ use lib.ListN.{length}
 use lib.Seq.{sets}
 use lib.Dec.{eqb}
 use Rattle.budget.specs.Refusal as refusal
-use Rattle.sheet.specs.Check.{check}
+use Rattle.judge.specs.Judged.{verdictAnswer}
+use Rattle.judge.specs.Margin.{marginAnswer}
+use Rattle.record.specs.Field.{Bytes}
+use Rattle.sheet.specs.Check.{check, pairsOf}
 use Rattle.transfer.specs.Reading.{reading}
-use Rattle.report.specs.Lines.{componentLine, endLine, refusedLine}
+use Rattle.tree.specs.Tree.{outcomeAt}
+use Rattle.report.specs.Lines.{answerFields, behind, componentLine, endLine, refusedLine}
+use Rattle.report.specs.Text.{decimal}
 
--- the lines of the first k components, in their order
+-- the lines of the first k components, in their order, each judged in its tree
 unfoldable pub componentLines : List ℕ → ℕ → List ℕ
 componentLines s zero = []
-componentLines s (suc k) = componentLines s k ++ componentLine (reading s k .component)
+componentLines s (suc k) = componentLines s k ++ componentLine (reading s k .component .number) (outcomeAt s k)
 
 -- a taken sheet has a line for each component and then the end's; a refused one has the line that names its refusal and nothing else
 unfoldable pub listingOf : List ℕ → List ℕ
@@ -28,3 +33,10 @@ pub record Listed (s before after : List ℕ) (r : ℕ) : Type 0 where
   pub answer : r ≡ length (listingOf s)
   pub bytes : after ≡ sets before 0 (listingOf s)
   pub room : r ≤ 16_448
+
+-- a sheet without pairs has the lines that its components have each by itself
+abbrev pub UnpairedAlone : Type 0
+UnpairedAlone =
+    (s : List ℕ) → Bytes s → check s .refusal ≡ refusal.none → pairsOf s ≡ [] → (k : ℕ) → k < check s .count
+    → let c = reading s k .component in
+    componentLine (c .number) (outcomeAt s k) ≡ decimal (c .number) ++ behind (answerFields (verdictAnswer c) (marginAnswer c))

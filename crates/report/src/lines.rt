@@ -4,18 +4,16 @@ use crate::text::put_field;
 use crate::text::put_number;
 use crate::text::put_signed;
 use crate::text::put_word;
-use budget::component::Component;
 use budget::quantity::Units;
 use judge::answer::Judged;
 use judge::answer::Margined;
 use judge::answer::Verdict;
-use judge::margin::margin;
-use judge::verdict::verdict;
-ghost use Prim.Native.Nat.{_+_, _≤_};
-ghost use mathlib.Core.List.{[], _∷_, _++_};
+use tree::answer::Outcome;
+ghost use Prim.Native.Nat.{_≤_};
+ghost use mathlib.Core.List.{[], _∷_};
 ghost use Rattle.report.specs.Text.{decimal, signedText};
 ghost use Rattle.report.specs.inner.Put.{Put};
-ghost use Rattle.report.specs.Lines.{behind, refusedLine, endLine, componentLine, marginFields, verdictFields, answerFields, accepted-word, short-word};
+ghost use Rattle.report.specs.Lines.{behind, refusedLine, endLine, componentLine, marginFields, verdictFields, answerFields, outcomeFields, accepted-word, short-word};
 
 // The one line of a refused sheet.
 pub(crate) fn put_refused(line: &mut Line, number: u16, place: usize) -> usize
@@ -105,19 +103,21 @@ fn put_answer(line: &mut Line, at: usize, judged: Judged, margined: Margined) ->
     }
 }
 
-// A component's line: its number, then its answer.
-fn put_numbered(line: &mut Line, number: u16, judged: Judged, margined: Margined) -> usize
-    ensures { λ r. ⌜ Put (now (line .entry)) 0 (decimal number ++ behind (answerFields judged margined)) (now (line .exit)) r ⌝ }
+// What stands behind a component's number in its tree, and the newline.
+fn put_outcome(line: &mut Line, at: usize, outcome: Outcome) -> usize
+    requires { ⌜ at ≤ 6 ⌝ }
+    ensures { λ r. ⌜ Put (now (line .entry)) at (behind (outcomeFields outcome)) (now (line .exit)) r ⌝ }
 {
-    let at = put_number(line, 0, number as usize);
-    put_answer(line, at, judged, margined)
+    match outcome {
+        Outcome::Waiting => put_word(line, at, b" waiting\n"),
+        Outcome::Judged(judged, margined) => put_answer(line, at, judged, margined),
+    }
 }
 
-// The line of one component.
-pub(crate) fn put_component(line: &mut Line, component: Component) -> usize
-    ensures { λ r. ⌜ Put (now (line .entry)) 0 (componentLine component) (now (line .exit)) r ⌝ }
+// The line of one component: its number, then its answer.
+pub(crate) fn put_component(line: &mut Line, number: u16, outcome: Outcome) -> usize
+    ensures { λ r. ⌜ Put (now (line .entry)) 0 (componentLine number outcome) (now (line .exit)) r ⌝ }
 {
-    let judged = verdict(component);
-    let margined = margin(component);
-    put_numbered(line, component.number, judged, margined)
+    let at = put_number(line, 0, number as usize);
+    put_outcome(line, at, outcome)
 }

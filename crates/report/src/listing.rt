@@ -3,15 +3,19 @@ use crate::lines::put_component;
 use crate::lines::put_end;
 use crate::lines::put_refused;
 use crate::text::Line;
-use budget::component::Component;
 use budget::refusal;
 use sheet::contents::contents_of;
+use transfer::pair::read_pairs;
 use transfer::read::read_at;
+use tree::answer::Outcome;
+use tree::offer::offer_of;
+use tree::outcome::judge_next;
 ghost use Prim.Native.Nat.{_+_, _≤_};
 ghost use lib.ListN.{length, take};
 ghost use Rattle.report.specs.Lines.{componentLine, endLine, refusedLine};
 ghost use Rattle.report.specs.Listing.{Listed};
-ghost use Rattle.report.specs.inner.Paged.{Known, Lines, Paged};
+ghost use Rattle.report.specs.inner.Paged.{Lines, Paged};
+ghost use Rattle.tree.specs.inner.Known.{Known};
 
 // Room for the longest listing: 256 components and the end, a line of at most 64 bytes each.
 pub type Page = [u8; 16448];
@@ -30,12 +34,12 @@ fn put_line(page: &mut Page, at: usize, line: &Line, n: usize) -> usize
     at + n
 }
 
-fn add_component(page: &mut Page, at: usize, component: Component) -> usize
+fn add_component(page: &mut Page, at: usize, number: u16, outcome: Outcome) -> usize
     requires { ⌜ at + 64 ≤ 16448 ⌝ }
-    ensures { λ r. ⌜ Paged (now (page .entry)) at (componentLine component) (now (page .exit)) r ⌝ }
+    ensures { λ r. ⌜ Paged (now (page .entry)) at (componentLine number outcome) (now (page .exit)) r ⌝ }
 {
     let mut line = [0u8; 64];
-    let n = put_component(&mut line, component);
+    let n = put_component(&mut line, number, outcome);
     put_line(page, at, &line, n)
 }
 
@@ -56,16 +60,39 @@ fn add_refused(page: &mut Page, number: u16, place: usize) -> usize
     put_line(page, 0, &line, n)
 }
 
-// The lines of the components in their order, each read between its edges.
+// The lines of the components in their order, each read between its edges and judged after its children.
 fn add_components(sheet: &[u8], edges: &[usize; 257], count: usize, page: &mut Page) -> usize
     requires { ⌜ Known (now sheet) (now edges) count ⌝ }
     ensures { λ r. ⌜ Lines (now (sheet .entry)) (now (page .entry)) count (now (page .exit)) r ⌝ }
 {
+    let from = edges[count];
+    let read = read_pairs(&sheet[from..]);
+    let pairs = read.count;
+    let children = read.children;
+    let parents = read.parents;
+    let mut numbers = [0u16; 256];
+    let mut capacities = [0u32; 256];
+    let mut periods = [0u32; 256];
+    let mut deadlines = [0u32; 256];
     let mut at = 0;
     let mut k = 0;
     while k < count {
         let component = read_at(sheet, edges, k);
-        at = add_component(page, at, component);
+        let outcome = judge_next(
+            component,
+            &children[..pairs],
+            &parents[..pairs],
+            &numbers[..k],
+            &capacities[..k],
+            &periods[..k],
+            &deadlines[..k],
+        );
+        let offer = offer_of(component, outcome);
+        numbers[k] = offer.number;
+        capacities[k] = offer.capacity;
+        periods[k] = offer.period;
+        deadlines[k] = offer.deadline;
+        at = add_component(page, at, component.number, outcome);
         k += 1;
     }
     at

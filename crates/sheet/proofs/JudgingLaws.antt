@@ -1,7 +1,7 @@
 -- The judging of a sheet's records is orderly: it goes on only behind a record, and only a component record counts a component more.
 use Prim.Native.Nat.{ℕ, _+_, _≤_, _<_}
 use mathlib.Core.Path.{_≡_, refl, sym, ap, _∙_}
-use mathlib.Core.Bool.{true, false, false≢true}
+use mathlib.Core.Bool.{true, false≢true}
 use native.Mathlib.Omega.{arith}
 use lib.Dec.{leb, ltb, eqb}
 use borrow.Author.Tests.{ne-eqb, leb-false, ltb-false, eqb-true, eqb-false}
@@ -13,11 +13,11 @@ use Rattle.budget.specs.Interface.{interface, interfaceRefusal}
 use Rattle.budget.specs.Task.{taskRefusal}
 use Rattle.record.specs.declared.layout.Head.{Head}
 use Rattle.record.specs.declared.layout.Record.{Record}
-use Rattle.record.specs.declared.layout.Record.the-variants.{ComponentRecord, TaskRecord, EndRecord, NoRecord}
+use Rattle.record.specs.declared.layout.Record.the-variants.{ComponentRecord, TaskRecord, PairRecord, EndRecord, NoRecord}
 use Rattle.record.specs.Layout.{headSize, sizeOf}
 use Rattle.record.proofs.Cases.{cases}
 use Rattle.sheet.specs.declared.judging.State.{State}
-use Rattle.sheet.specs.Judging.{most-bytes, start, refuse, ended, opened, headRefusal, standingRefusal, endingRefusal, recordRefusal, afterHead, afterTask, after, judged}
+use Rattle.sheet.specs.Judging.{most-bytes, start, refuse, ended, opened, headRefusal, standingRefusal, recordRefusal, afterHead, afterTask, after, judged}
 use Rattle.sheet.specs.Walk.{Onward, Orderly}
 
 -- a component record is not empty
@@ -57,39 +57,23 @@ task-taken st k =
     Taken : ℕ → Type 0
     Taken n = n ≡ 0 → TaskTaken st k
 
-pub record EndTaken (st : State) (count left : ℕ) : Type 0 where
-  pub counted : count ≡ st .count
-  pub last : left ≡ sizeOf (EndRecord count)
-
-pub end-taken : (st : State) (count left : ℕ) → endingRefusal st count left ≡ 0 → EndTaken st count left
-unfolding endingRefusal
-end-taken st count left =
-    cases Taken (eqb count (st .count))
-    (λ p. cases Taken (eqb left (sizeOf (EndRecord count)))
-    (λ q e. record { counted = eqb-true count (st .count) p; last = eqb-true left (sizeOf (EndRecord count)) q })
-    (λ q e. absurd (omega (arith, e))))
-    (λ p e. absurd (omega (arith, e)))
-  where
-    Taken : ℕ → Type 0
-    Taken n = n ≡ 0 → EndTaken st count left
-
 -- one record, as the code judges it
-module _ (st : State) (r : Record) (left n : ℕ) (e : n ≡ recordRefusal st r left) where
-  pub judged-refused : (n ≡ 0 → ⊥) → (next : State) → next ≡ refuse n st → next ≡ judged st r left
+module _ (st : State) (r : Record) (n : ℕ) (e : n ≡ recordRefusal st r) where
+  pub judged-refused : (n ≡ 0 → ⊥) → (next : State) → next ≡ refuse n st → next ≡ judged st r
   unfolding judged
   judged-refused h next f = rw (← e, ne-eqb n 0 h) f
 
-  pub judged-taken : n ≡ 0 → (kind : Record) → r ≡ kind → (next : State) → next ≡ after st kind → next ≡ judged st r left
+  pub judged-taken : n ≡ 0 → (kind : Record) → r ≡ kind → (next : State) → next ≡ after st kind → next ≡ judged st r
   unfolding judged
   judged-taken h kind k next f = rw (← e, h) (f ∙ ap (after st) (sym k))
 
   pub head-fits : n ≡ 0 → (h : Head) → r ≡ ComponentRecord h → st .place + sizeOf r ≤ 65_536 → (st .place + sizeOf (ComponentRecord h) ≤ 65_536) × (st .count < 256)
   unfolding recordRefusal
-  head-fits z h k w = (rw k at w, head-taken st h (sym (ap (λ (x : Record). recordRefusal st x left) k) ∙ (sym e ∙ z)) .few)
+  head-fits z h k w = (rw k at w, head-taken st h (sym (ap (recordRefusal st) k) ∙ (sym e ∙ z)) .few)
 
   pub task-fits : n ≡ 0 → (k : Task) → r ≡ TaskRecord k → st .place + sizeOf r ≤ 65_536 → (st .place + sizeOf (TaskRecord k) ≤ 65_536) × (st .tasks < 64)
   unfolding recordRefusal
-  task-fits z k q w = (rw q at w, task-taken st k (sym (ap (λ (x : Record). recordRefusal st x left) q) ∙ (sym e ∙ z)) .few)
+  task-fits z k q w = (rw q at w, task-taken st k (sym (ap (recordRefusal st) q) ∙ (sym e ∙ z)) .few)
 
 -- ---- the judging is orderly
 
@@ -98,7 +82,7 @@ unfolding refuse
 refused st n k h =
     record { kept = omega arith; within = h; goes = λ e. absurd (false≢true e); counts = omega arith; singly = omega arith; few = λ l. l }
 
-behind : (st : State) (r : Record) (left : ℕ) → sizeOf r ≤ left → recordRefusal st r left ≡ 0 → Onward (st .place + left) st (after st r)
+behind : (st : State) (r : Record) (left : ℕ) → sizeOf r ≤ left → recordRefusal st r ≡ 0 → Onward (st .place + left) st (after st r)
 unfolding recordRefusal after ended sizeOf afterHead afterTask
 behind st (ComponentRecord h) left w e =
     let some = some-head (h .capacity) in
@@ -106,24 +90,27 @@ behind st (ComponentRecord h) left w e =
     record { kept = omega arith; within = omega arith; goes = λ g. omega arith; counts = omega arith; singly = omega arith; few = λ l. omega (arith, t .few) }
 behind st (TaskRecord k) left w e =
     record { kept = omega arith; within = omega arith; goes = λ g. omega arith; counts = omega arith; singly = omega arith; few = λ l. l }
+behind st (PairRecord p) left w e = refused st (st .place + left) 0 (omega arith)
 behind st (EndRecord count) left w e = refused st (st .place + left) 0 (omega arith)
 behind st (NoRecord n) left w e = refused st (st .place + left) 0 (omega arith)
 
 pub orderly : Orderly judged
 unfolding judged
 orderly st r left w =
-    let n : ℕ = recordRefusal st r left in
+    let n : ℕ = recordRefusal st r in
     cases (Onward (st .place + left) st) (eqb n 0) (λ p. behind st r left w (eqb-true n 0 p)) (λ p. refused st (st .place + left) n (omega arith))
 
 -- before the first record: a walk that goes on has a sheet that is not too long
 pub record Begins (n : ℕ) (st : State) : Type 0 where
   pub place : st .place ≡ 0
   pub count : st .count ≡ 0
+  pub lowest : st .lowest ≡ 0
+  pub tasks : st .tasks ≡ 0
   pub short : st .going ≡ true → n ≤ most-bytes
 
 pub opens : (n : ℕ) → Begins n (opened n)
 unfolding opened refuse start
 opens n =
     cases (Begins n) (ltb most-bytes n)
-    (λ p. record { place = refl; count = refl; short = λ e. absurd (false≢true e) })
-    (λ p. record { place = refl; count = refl; short = λ e. ltb-false most-bytes n p })
+    (λ p. record { place = refl; count = refl; lowest = refl; tasks = refl; short = λ e. absurd (false≢true e) })
+    (λ p. record { place = refl; count = refl; lowest = refl; tasks = refl; short = λ e. ltb-false most-bytes n p })

@@ -1,6 +1,15 @@
 pub mod Figures
 pub mod JudgingLaws
 pub mod WalkLaws
+pub mod HeldLaws
 pub mod ContentsLaws
+pub mod Noting
 pub mod Walking
 pub mod PartLaws
+pub mod RegisterLaws
+pub mod PairLaws
+pub mod NestedLaws
+pub mod PairCounts
+pub mod SoughtLaws
+pub mod CourseLaws
+pub mod PairWalking

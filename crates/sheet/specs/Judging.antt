@@ -1,4 +1,5 @@
--- How one record is judged against what was read before it, which decides what may stand where in a sheet (docs/RULES.md, 10) and which refusal comes first (13).
+-- How the records of components and tasks are judged, each against what was read before it: what may stand where in a sheet (docs/RULES.md, 10)
+-- and which refusal comes first (13). The first record of another kind ends them; Pairs.antt judges it and what follows.
 use Prim.Native.Nat.{ℕ, _+_}
 use mathlib.Core.Bool.{true, false, cond}
 use lib.Dec.{leb, ltb, eqb}
@@ -10,7 +11,7 @@ use Rattle.budget.specs.Refusal as refusal
 use Rattle.budget.specs.Task.{taskRefusal}
 use Rattle.record.specs.declared.layout.Head.{Head}
 use Rattle.record.specs.declared.layout.Record.{Record}
-use Rattle.record.specs.declared.layout.Record.the-variants.{ComponentRecord, TaskRecord, EndRecord, NoRecord}
+use Rattle.record.specs.declared.layout.Record.the-variants.{ComponentRecord, TaskRecord, PairRecord, EndRecord, NoRecord}
 use Rattle.record.specs.Layout.{sizeOf}
 use Rattle.sheet.specs.declared.judging.State.{State}
 
@@ -29,7 +30,7 @@ start = record { going = true; refusal = refusal.none; place = 0; count = 0; low
 unfoldable pub refuse : ℕ → State → State
 refuse n st = record { going = false; refusal = n; place = st .place; count = st .count; lowest = st .lowest; tasks = st .tasks }
 
--- the walk stops at the end record
+-- the walk stops behind the last component: a pair or the end record stands here
 unfoldable pub ended : State → State
 ended st = refuse refusal.none st
 
@@ -51,19 +52,13 @@ standingRefusal st k =
     (cond (leb most-tasks (st .tasks)) refusal.tasks
     (taskRefusal k))
 
--- the end record: its count is that of the components, and its bytes are all that are left
-unfoldable pub endingRefusal : State → ℕ → ℕ → ℕ
-endingRefusal st count left =
-    cond (eqb count (st .count))
-    (cond (eqb left (sizeOf (EndRecord count))) refusal.none refusal.end)
-    refusal.end
-
--- of one record, with so many bytes left from its first on; where none was read, the refusal is the one of its layout
-unfoldable pub recordRefusal : State → Record → ℕ → ℕ
-recordRefusal st (ComponentRecord h) left = headRefusal st h
-recordRefusal st (TaskRecord k) left = standingRefusal st k
-recordRefusal st (EndRecord count) left = endingRefusal st count left
-recordRefusal st (NoRecord n) left = n
+-- of one record; where none was read, the refusal is the one of its layout
+unfoldable pub recordRefusal : State → Record → ℕ
+recordRefusal st (ComponentRecord h) = headRefusal st h
+recordRefusal st (TaskRecord k) = standingRefusal st k
+recordRefusal st (PairRecord p) = refusal.none
+recordRefusal st (EndRecord count) = refusal.none
+recordRefusal st (NoRecord n) = n
 
 -- behind a component record: one component more, without tasks, and the next number is at least one more
 unfoldable pub afterHead : State → Head → State
@@ -89,13 +84,14 @@ afterTask st k =
       tasks = st .tasks + 1;
     }
 
--- behind a record that is taken; the end record ends the walk
+-- behind a record that is taken; one that is neither a component's nor a task's ends the walk where it begins
 unfoldable pub after : State → Record → State
 after st (ComponentRecord h) = afterHead st h
 after st (TaskRecord k) = afterTask st k
+after st (PairRecord p) = ended st
 after st (EndRecord count) = ended st
 after st (NoRecord n) = ended st
 
 -- a record is taken, or refused where it begins
-unfoldable pub judged : State → Record → ℕ → State
-judged st r left = cond (eqb (recordRefusal st r left) refusal.none) (after st r) (refuse (recordRefusal st r left) st)
+unfoldable pub judged : State → Record → State
+judged st r = cond (eqb (recordRefusal st r) refusal.none) (after st r) (refuse (recordRefusal st r) st)

@@ -1,5 +1,8 @@
 pub mod Judging
 pub mod Walk
+pub mod Register
+pub mod Pairs
 pub mod Check
 pub mod Contents
 pub mod Part
+pub mod inner

@@ -1,6 +1,6 @@
-// A sheet's contents in one walk: what it is answered, and the edges between its components.
+// A sheet's contents in one answer: what it is answered, and the edges between its components, at the last of which its pairs begin.
 use crate::check::Checked;
-use crate::check::checked_of;
+use crate::check::answer;
 use crate::walk::walk;
 use budget::refusal;
 ghost use mathlib.Core.Path.{_≡_};
@@ -17,8 +17,7 @@ pub fn contents_of(sheet: &[u8]) -> Contents
     ensures { λ r. ⌜ r ≡ contentsOf (now (sheet .entry)) ⌝ }
 {
     let found = walk(sheet);
-    let state = found.state;
-    let checked = checked_of(state);
+    let checked = answer(sheet, found);
     let refused = checked.refusal;
     if refused != refusal::NONE {
         return Contents {

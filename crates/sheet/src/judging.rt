@@ -1,4 +1,4 @@
-// How one record is judged against what was read before it: the bytes of the sheet are not in sight.
+// How the records of components and tasks are judged, each against what was read before it: the bytes of the sheet are not in sight.
 use budget::component::Capacity;
 use budget::interface::Interface;
 use budget::interface::check_interface;
@@ -14,7 +14,7 @@ ghost use mathlib.Core.Path.{_≡_};
 ghost use Prim.Native.Nat.{_+_, _≤_, _<_};
 ghost use Rattle.budget.specs.Component.{unitsOf};
 ghost use Rattle.record.specs.Layout.{sizeOf};
-ghost use Rattle.sheet.specs.Judging.{refuse, opened, headRefusal, standingRefusal, endingRefusal, recordRefusal, afterHead, afterTask, judged};
+ghost use Rattle.sheet.specs.Judging.{refuse, opened, headRefusal, standingRefusal, recordRefusal, afterHead, afterTask, judged};
 
 // Most bytes of a sheet, and most components.
 pub const MOST_BYTES: usize = 65_536;
@@ -111,29 +111,15 @@ fn check_standing(state: State, task: Task) -> u16
     check_task(task)
 }
 
-// The refusals of the end record.
-fn check_ending(state: State, count: u16, left: usize) -> u16
-    ensures { λ r. ⌜ r ≡ endingRefusal state count left ⌝ }
-{
-    let said = count as usize;
-    let counted = state.count;
-    if said != counted {
-        return refusal::END;
-    }
-    if left != 6 {
-        return refusal::END;
-    }
-    refusal::NONE
-}
-
-// The refusal of one record, with so many bytes left from its first on; where none was read, it is the one of its layout.
-fn check_record(state: State, record: Record, left: usize) -> u16
-    ensures { λ r. ⌜ r ≡ recordRefusal state «record» left ⌝ }
+// The refusal of one record; where none was read, it is the one of its layout. A pair or the end record ends the components.
+fn check_record(state: State, record: Record) -> u16
+    ensures { λ r. ⌜ r ≡ recordRefusal state «record» ⌝ }
 {
     match record {
         Record::ComponentRecord(head) => check_head(state, head),
         Record::TaskRecord(task) => check_standing(state, task),
-        Record::EndRecord(count) => check_ending(state, count, left),
+        Record::PairRecord(_) => refusal::NONE,
+        Record::EndRecord(_) => refusal::NONE,
         Record::NoRecord(number) => number,
     }
 }
@@ -170,17 +156,18 @@ fn after_task(state: State, task: Task) -> State
 }
 
 // One record against the state so far: it is taken, or refused where it begins.
-pub(crate) fn judge(state: State, record: Record, left: usize) -> State
+pub(crate) fn judge(state: State, record: Record) -> State
     requires { ⌜ state .place + sizeOf «record» ≤ 65_536 ⌝ }
-    ensures { λ r. ⌜ r ≡ judged state «record» left ⌝ }
+    ensures { λ r. ⌜ r ≡ judged state «record» ⌝ }
 {
-    let refused = check_record(state, record, left);
+    let refused = check_record(state, record);
     if refused != refusal::NONE {
         return refuse(refused, state);
     }
     match record {
         Record::ComponentRecord(head) => after_head(state, head),
         Record::TaskRecord(task) => after_task(state, task),
+        Record::PairRecord(_) => refuse(refusal::NONE, state),
         Record::EndRecord(_) => refuse(refusal::NONE, state),
         Record::NoRecord(_) => refuse(refusal::NONE, state),
     }

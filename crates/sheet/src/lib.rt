@@ -1,6 +1,7 @@
-// The budget sheet: one walk over its records, which checks it and finds its components.
+// The budget sheet: one walk over its components and tasks and one over the pairs behind them, which check it and find its components.
 pub mod check;
 pub mod contents;
 pub mod judging;
+pub mod pairs;
 pub mod part;
 pub mod walk;

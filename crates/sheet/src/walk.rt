@@ -1,4 +1,4 @@
-// The one walk over a sheet's bytes: how it ends, and the edges between the components that it passes.
+// The walk over a sheet's components and tasks: how it ends, and what it notes of the components that it passes.
 use crate::judging::State;
 use crate::judging::judge;
 use crate::judging::opened;
@@ -8,12 +8,15 @@ ghost use Prim.Native.Nat.{_≤_};
 ghost use lib.ListN.{length};
 ghost use Rattle.sheet.specs.Judging.{judged};
 ghost use Rattle.sheet.specs.Walk.{step};
-ghost use Rattle.sheet.specs.Check.{walked};
-ghost use Rattle.sheet.specs.Contents.{edgesOf};
+ghost use Rattle.sheet.specs.inner.Noted.{walkedOf};
 
+// How the walk ends, and what it held last with each count of components: its place, the lowest number that may follow, and the tasks
+// of the last component; 0 behind the last count.
 pub struct Walked {
     pub state: State,
     pub edges: [usize; 257],
+    pub lowest: [u32; 257],
+    pub tasks: [usize; 257],
 }
 
 fn step(sheet: &[u8], state: State) -> State
@@ -22,24 +25,32 @@ fn step(sheet: &[u8], state: State) -> State
 {
     let place = state.place;
     let rest = &sheet[place..];
-    let left = rest.len();
     let record = record_of(rest);
-    judge(state, record, left)
+    judge(state, record)
 }
 
-// Walks from the first record on while the judging goes on, and notes where each count of components was held last.
-pub fn walk(sheet: &[u8]) -> Walked
-    ensures { λ r. ⌜ r ≡ record { state = walked (now (sheet .entry)); edges = edgesOf (now (sheet .entry)) } ⌝ }
+// Walks from the first record on while the judging goes on, and notes what each count of components was held with last.
+pub(crate) fn walk(sheet: &[u8]) -> Walked
+    ensures { λ r. ⌜ r ≡ walkedOf (now (sheet .entry)) ⌝ }
 {
     let mut edges = [0usize; 257];
+    let mut lowest = [0u32; 257];
+    let mut tasks = [0usize; 257];
     let mut state = opened(sheet.len());
     let mut going = state.going;
     while going {
         let next = step(sheet, state);
         let count = next.count;
         edges[count] = next.place;
+        lowest[count] = next.lowest;
+        tasks[count] = next.tasks;
         state = next;
         going = next.going;
     }
-    Walked { state, edges }
+    Walked {
+        state,
+        edges,
+        lowest,
+        tasks,
+    }
 }

@@ -49,7 +49,7 @@ counted-bit o s e x = go (ltb x o)
 
 module _ (i : Interface) (v : ValidInterface i) (o : ℕ) (s : List ℕ) where
   -- a period whose places below Δ all count owes nothing more
-  all-count : (k : ℕ) → ((m : ℕ) → m < Δ i → counted o s (k * Π i + m) ≡ 1) → Θ i ≤ units (counted o s) (k * Π i) (Δ i)
+  pub all-count : (k : ℕ) → ((m : ℕ) → m < Δ i → counted o s (k * Π i + m) ≡ 1) → Θ i ≤ units (counted o s) (k * Π i) (Δ i)
   all-count k h =
       omega (arith, units-ones (k * Π i) (Δ i), units-same (counted o s) (λ y. 1) (k * Π i) (k * Π i) (Δ i) h)
 

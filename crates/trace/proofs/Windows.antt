@@ -19,7 +19,7 @@ use Rattle.trace.proofs.Periods.{counted-before, counted-at, counted-af
 use Rattle.trace.proofs.Units.{units-le, units-same, supplied-part}
 
 -- inside the list no default is read
-getD-inside : (s : List ℕ) (n d e : ℕ) → n < length s → getD s n d ≡ getD s n e
+pub getD-inside : (s : List ℕ) (n d e : ℕ) → n < length s → getD s n d ≡ getD s n e
 getD-inside [] n d e h = absurd (not-suc-le-zero h)
 getD-inside (b ∷ s) zero d e h = refl
 getD-inside (b ∷ s) (suc n) d e h = getD-inside s n d e (le-of-suc-le-suc h)

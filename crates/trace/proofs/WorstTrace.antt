@@ -20,18 +20,18 @@ use Rattle.trace.proofs.Curve.{most, gain}
 use Rattle.trace.proofs.Units.{units-same, units-ones, supplied-part}
 use Rattle.trace.proofs.Windows.{cut-legal}
 
-slots-length : (f : ℕ → ℕ) (x n : ℕ) → length (slots f x n) ≡ n
+pub slots-length : (f : ℕ → ℕ) (x n : ℕ) → length (slots f x n) ≡ n
 unfolding slots
 slots-length f x zero = refl
 slots-length f x (suc n) = ap suc (slots-length f (suc x) n)
 
-slots-at : (f : ℕ → ℕ) (x n m d : ℕ) → m < n → getD (slots f x n) m d ≡ f (x + m)
+pub slots-at : (f : ℕ → ℕ) (x n m d : ℕ) → m < n → getD (slots f x n) m d ≡ f (x + m)
 unfolding slots
 slots-at f x zero m d h = absurd (not-suc-le-zero h)
 slots-at f x (suc n) zero d h = rw add-zero
 slots-at f x (suc n) (suc m) d h = slots-at f (suc x) n m d (le-of-suc-le-suc h) ∙ rw (suc-add, add-suc)
 
-slots-bits : (f : ℕ → ℕ) → ((x : ℕ) → f x ≤ 1) → (x n : ℕ) → zerosAndOnes (slots f x n) ≡ true
+pub slots-bits : (f : ℕ → ℕ) → ((x : ℕ) → f x ≤ 1) → (x n : ℕ) → zerosAndOnes (slots f x n) ≡ true
 unfolding slots zerosAndOnes
 slots-bits f one x zero = refl
 slots-bits f one x (suc n) = and-true (le-leb (f x) 1 (one x)) (slots-bits f one (suc x) n)

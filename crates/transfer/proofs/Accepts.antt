@@ -1,32 +1,34 @@
--- The sheet of valid components in rising number is accepted, and its edges lie between its components' bytes: record by record, along the walk.
+-- Valid components in rising number are walked to the record that ends them, and with each count of components the walk is held behind their bytes: record by record, along the walk.
 use Prim.Native.Nat.{ℕ, zero, suc, _+_, _-_, _^_, _≤_, _<_}
 use mathlib.Core.Path.{_≡_, refl, sym, ap, _∙_}
-use mathlib.Core.Bool.{true, false}
-use mathlib.Core.List.{List, [], _∷_, _++_, append-assoc, append-nil}
+use mathlib.Core.Bool.{true}
+use mathlib.Core.List.{List, [], _∷_, _++_, append-assoc}
 use native.Mathlib.Omega.{arith}
-use lib.ListN.{length, drop, length-append, length-drop}
+use lib.ListN.{length, getD, drop, length-append}
 use lib.Seq.{drop-at, drop-drop}
-use borrow.Author.Tests.{lt-leb, le-ltb, eq-eqb, ne-eqb}
+use borrow.Author.Tests.{lt-leb, le-ltb, ne-eqb}
 use Rattle.budget.specs.declared.component.Capacity.{Capacity}
 use Rattle.budget.specs.declared.component.Component.{Component}
 use Rattle.budget.specs.declared.task.Task.{Task}
-use Rattle.budget.specs.Component.{unitsOf, interfaceOf}
+use Rattle.budget.specs.Component.{unitsOf, interfaceOf, refused}
 use Rattle.budget.specs.Interface.{interface, interfaceRefusal, validInterface}
 use Rattle.budget.specs.Task.{T, C, D, taskRefusal, validTask, validTasks, tasksOf}
 use Rattle.budget.proofs.Places.{places}
 use Rattle.budget.proofs.Ranges.{in-range}
 use Rattle.budget.proofs.Valid.{valid-task, valid-interface, both}
-use Rattle.record.specs.declared.layout.Record.the-variants.{ComponentRecord, TaskRecord}
-use Rattle.record.specs.Layout.{headBytes, taskBytes, endBytes, sizeOf}
-use Rattle.record.proofs.RoundRecord.{head, head-back, task-back, end-back}
+use Rattle.record.specs.declared.layout.Pair.{Pair}
+use Rattle.record.specs.declared.layout.Record.{Record}
+use Rattle.record.specs.declared.layout.Record.the-variants.{ComponentRecord, TaskRecord, PairRecord, EndRecord}
+use Rattle.record.specs.Layout.{headBytes, taskBytes, sizeOf, recordOf}
+use Rattle.record.proofs.RoundRecord.{head, head-back, task-back}
 use Rattle.sheet.specs.declared.judging.State.{State}
-use Rattle.sheet.specs.Judging.{refuse, ended, headRefusal, standingRefusal, endingRefusal, recordRefusal, afterHead, afterTask, after, judged}
-use Rattle.sheet.specs.Walk.{step, walk, edge}
+use Rattle.sheet.specs.Judging.{refuse, ended, headRefusal, standingRefusal, recordRefusal, afterHead, afterTask, after, judged}
+use Rattle.sheet.specs.Walk.{step, walk, held}
 use Rattle.sheet.proofs.JudgingLaws.{orderly}
-use Rattle.sheet.proofs.WalkLaws.{walk-on, walk-stopped, edge-on, edge-here, edge-cases, edge-stopped, step-advances}
+use Rattle.sheet.proofs.WalkLaws.{walk-on, walk-stopped, held-on, held-here, held-cases, held-stopped, step-advances}
 use Rattle.transfer.specs.RoundTrip.{componentsBytes, Sound, Rising}
 use Rattle.transfer.specs.Writing.{tasksBytes, componentBytes}
-use Rattle.transfer.proofs.StoreLaws.{head-length, task-length, end-length}
+use Rattle.transfer.proofs.StoreLaws.{head-length, task-length}
 
 -- a walk that has come to a place, with so many components, the lowest number allowed next and so many tasks of the last component
 abbrev pub on : ℕ → ℕ → ℕ → ℕ → State
@@ -43,9 +45,21 @@ head-size number period c deadline = sym (head-length number period c deadline)
 
 -- ---- one record of a sheet
 
+-- a record that ends the components: the walk stops there without refusal
+abbrev pub Stops : Record → Type 0
+Stops r = (st : State) → judged st r ≡ ended st
+
+pub pair-stops : (p : Pair) → Stops (PairRecord p)
+unfolding judged recordRefusal after
+pair-stops p st = refl
+
+pub end-stops : (n : ℕ) → Stops (EndRecord n)
+unfolding judged recordRefusal after
+end-stops n st = refl
+
 module _ (s : List ℕ) where
   -- what stands behind a row of bytes that begins at a place
-  behind : (p : ℕ) (a tail : List ℕ) → drop p s ≡ a ++ tail → drop (p + length a) s ≡ tail
+  pub behind : (p : ℕ) (a tail : List ℕ) → drop p s ≡ a ++ tail → drop (p + length a) s ≡ tail
   behind p a tail e = sym (drop-drop (length a) p s) ∙ (ap (drop (length a)) e ∙ drop-at a tail (length a) refl)
 
   task-step : (p count lowest tasks : ℕ) (k : Task) (tail : List ℕ) → 1 ≤ count → tasks < 64 → validTask k ≡ true → drop p s ≡ taskBytes k ++ tail → step judged s (on p count lowest tasks) ≡ on (p + length (taskBytes k)) count lowest (tasks + 1)
@@ -69,14 +83,11 @@ module _ (s : List ℕ) where
       rw (e, head-back tail number period c deadline fits g h i, lt-leb 256 count few, le-ltb number lowest low, v)
       (ap (λ (n : ℕ). on (p + n) (count + 1) (number + 1) 0) (head-size number period c deadline))
 
-  end-step : (p count lowest tasks : ℕ) → count ≤ 256 → drop p s ≡ endBytes count → step judged s (on p count lowest tasks) ≡ ended (on p count lowest tasks)
-  unfolding step judged recordRefusal endingRefusal after sizeOf
-  end-step p count lowest tasks few e =
-      let f : drop p s ≡ endBytes count ++ [] = e ∙ sym (append-nil (endBytes count)) in
-      let l : length s - p ≡ 6 = sym (length-drop p s) ∙ (ap length e ∙ end-length count) in
-      rw (f, end-back [] count (omega arith), eq-eqb count count refl, l)
+  stop-step : (st : State) (tail : List ℕ) → drop (st .place) s ≡ tail → Stops (recordOf tail) → step judged s st ≡ ended st
+  unfolding step
+  stop-step st tail e o = rw e (o st)
 
--- ---- along the walk: with any number of steps that is enough, it ends so from a state on, and its edge k lies there
+-- ---- along the walk: with any number of steps that is enough, it ends so from a state on, and holds that state with k components, but for whether it goes on
 
 module _ (s : List ℕ) where
   abbrev Enough : State → ℕ → Type 0
@@ -85,35 +96,39 @@ module _ (s : List ℕ) where
   abbrev Ends : State → State → Type 0
   Ends st last = (f : ℕ) → Enough st f → walk judged f s st ≡ last
 
-  abbrev Edge : ℕ → State → ℕ → Type 0
-  Edge k st e = (f : ℕ) → Enough st f → edge judged f s k st ≡ e
+  abbrev Holds : ℕ → State → State → Type 0
+  Holds k st x = (f : ℕ) → Enough st f → ended (held judged f s k st) ≡ ended x
 
   step-ends : (st next last : State) → st .going ≡ true → step judged s st ≡ next → st .place < next .place → next .place ≤ length s → Ends next last → (f : ℕ) → Enough st f → walk judged f s st ≡ last
   step-ends st next last g e a b n zero h = absurd (omega arith)
   step-ends st next last g e a b n (suc f) h = walk-on judged f s st g ∙ rw e (n f (omega arith))
 
-  last-ends : (st last : State) → st .going ≡ true → step judged s st ≡ last → last .going ≡ false → (f : ℕ) → Enough st f → walk judged f s st ≡ last
-  last-ends st last g e o zero h = absurd (omega arith)
-  last-ends st last g e o (suc f) h = walk-on judged f s st g ∙ rw e (walk-stopped judged f s last o)
+  last-ends : (st : State) → st .going ≡ true → step judged s st ≡ ended st → (f : ℕ) → Enough st f → walk judged f s st ≡ ended st
+  unfolding ended refuse
+  last-ends st g e zero h = absurd (omega arith)
+  last-ends st g e (suc f) h = walk-on judged f s st g ∙ rw e (walk-stopped judged f s (ended st) refl)
 
-  step-edge : (k : ℕ) (st next : State) (at : ℕ) → st .going ≡ true → step judged s st ≡ next → st .place < next .place → next .place ≤ length s → next .count ≤ k → Edge k next at → (f : ℕ) → Enough st f → edge judged f s k st ≡ at
-  step-edge k st next at g e a b c n zero h = absurd (omega arith)
-  step-edge k st next at g e a b c n (suc f) h = edge-on judged f s st k g (rw e c) ∙ rw e (n f (omega arith))
+  step-holds : (k : ℕ) (st next x : State) → st .going ≡ true → step judged s st ≡ next → st .place < next .place → next .place ≤ length s → next .count ≤ k → Holds k next x → (f : ℕ) → Enough st f → ended (held judged f s k st) ≡ ended x
+  step-holds k st next x g e a b c n zero h = absurd (omega arith)
+  step-holds k st next x g e a b c n (suc f) h = ap ended (held-on judged f s st k g (rw e c)) ∙ rw e (n f (omega arith))
 
   -- a component record begins here, or the walk stops here
-  first-edge : (k : ℕ) (st next : State) → st .going ≡ true → step judged s st ≡ next → k < next .count → (f : ℕ) → Enough st f → edge judged f s k st ≡ st .place
-  first-edge k st next g e c zero h = absurd (omega arith)
-  first-edge k st next g e c (suc f) h = edge-here judged f s st k g (rw e c)
+  first-holds : (k : ℕ) (st next : State) → st .going ≡ true → step judged s st ≡ next → k < next .count → (f : ℕ) → Enough st f → ended (held judged f s k st) ≡ ended st
+  first-holds k st next g e c zero h = absurd (omega arith)
+  first-holds k st next g e c (suc f) h = ap ended (held-here judged f s st k g (rw e c))
 
-  last-edge : (k : ℕ) (st last : State) → step judged s st ≡ last → last .going ≡ false → last .place ≡ st .place → (f : ℕ) → Enough st f → edge judged f s k st ≡ st .place
-  last-edge k st last e o p zero h = absurd (omega arith)
-  last-edge k st last e o p (suc f) h =
-      edge-cases judged f s st k (λ (x : ℕ). x ≡ st .place) refl (λ g l. rw e (edge-stopped judged f s k last o ∙ p))
+  stays : (f k : ℕ) (st : State) → ended (held judged f s k (ended st)) ≡ ended st
+  unfolding ended refuse
+  stays f k st = ap ended (held-stopped judged f s k (ended st) refl)
+
+  last-holds : (k : ℕ) (st : State) → step judged s st ≡ ended st → (f : ℕ) → Enough st f → ended (held judged f s k st) ≡ ended st
+  last-holds k st e zero h = absurd (omega arith)
+  last-holds k st e (suc f) h = held-cases judged f s st k (λ (x : State). ended x ≡ ended st) refl (λ g l. rw e (stays f k st))
 
   -- from one state to another, by records that are taken
   record Comes (st next : State) : Type 0 where
     pub ends : (last : State) → Ends next last → Ends st last
-    pub edges : (k at : ℕ) → next .count ≤ k → Edge k next at → Edge k st at
+    pub holds : (k : ℕ) (x : State) → next .count ≤ k → Holds k next x → Holds k st x
     pub counts : st .count ≤ next .count
     pub within : next .place ≤ length s
 
@@ -124,7 +139,7 @@ module _ (s : List ℕ) where
       let m : st .place < next .place = rw e at (a .goes (rw e o)) in
       record {
         ends = λ last n. step-ends st next last g e m b n;
-        edges = λ k at c n. step-edge k st next at g e m b c n;
+        holds = λ k x c n. step-holds k st next x g e m b c n;
         counts = rw e at (a .counts);
         within = b;
       }
@@ -133,7 +148,7 @@ module _ (s : List ℕ) where
   comes-on a b c v w =
       record {
         ends = λ last n. v .ends last (w .ends last n);
-        edges = λ k at h n. v .edges k at (omega (arith, w .counts)) (w .edges k at h n);
+        holds = λ k x h n. v .holds k x (omega (arith, w .counts)) (w .holds k x h n);
         counts = omega (arith, v .counts, w .counts);
         within = w .within;
       }
@@ -144,7 +159,7 @@ module _ (s : List ℕ) where
   tasks-come [] p n l t tail h one few v e =
       let a : p + 0 ≡ p = omega arith in
       let b : t + 0 ≡ t = omega arith in
-      rw (a, b) (record { ends = λ last w. w; edges = λ k at c w. w; counts = omega arith; within = h })
+      rw (a, b) (record { ends = λ last w. w; holds = λ k x c w. w; counts = omega arith; within = h })
   tasks-come (x ∷ ks) p n l t tail h one few v e =
       let valid = both (validTask x) (validTasks ks) v in
       let rest : List ℕ = tasksBytes ks ++ tail in
@@ -169,10 +184,10 @@ tasks-full c sound =
 pub few-tasks : (c : Component) → Sound c → length (tasksOf (c .table)) ≤ 64
 few-tasks c sound = let f = tasks-full c sound in let range = in-range c (sound .ranges) in omega (arith, f, range .count)
 
--- behind a component, and before it: its record begins at an edge
+-- behind a component, and before it: with the components before it the walk is held where its record begins
 record Passes (s : List ℕ) (p n l t : ℕ) (c : Component) : Type 0 where
   pub comes : Comes s (on p n l t) (on (p + length (componentBytes c)) (n + 1) (c .number + 1) (length (tasksOf (c .table))))
-  pub begins : Edge s n (on p n l t) p
+  pub begins : Holds s n (on p n l t) (on p n l t)
 
 passes : (s : List ℕ) (c : Component) (p n l t : ℕ) (rest : List ℕ) → p ≤ length s → n < 256 → l ≤ c .number → Sound c → drop p s ≡ componentBytes c ++ rest → Passes s p n l t c
 unfolding componentBytes interfaceOf
@@ -191,62 +206,89 @@ passes s c p n l t rest h few low sound e =
     rw z at (tasks-come s ks (p + length H) (n + 1) (c .number + 1) 0 rest (w .within) (omega arith) (omega (arith, few-tasks c sound)) (range .tasks) (behind s p H (tasksBytes ks ++ rest) f)) in
     record {
       comes = rw a (comes-on s (on p n l t) next (on (p + length H + length (tasksBytes ks)) (n + 1) (c .number + 1) (length ks)) w v);
-      begins = first-edge s n (on p n l t) next refl s₁ (omega arith);
+      begins = first-holds s n (on p n l t) next refl s₁ (omega arith);
     }
 
--- ---- all components, and the end record
+-- ---- all components, up to a record that ends them
 
 -- how many bytes stand before the component at place j
-unfoldable pub before : List Component → ℕ → ℕ
-before [] j = 0
-before (c ∷ cs) zero = 0
-before (c ∷ cs) (suc j) = length (componentBytes c) + before cs j
+unfoldable pub before : ℕ → List Component → ℕ
+before zero cs = 0
+before (suc j) [] = 0
+before (suc j) (c ∷ cs) = length (componentBytes c) + before j cs
 
--- the walk from a state accepts these components: no refusal, so many more of them, and an edge before each and behind the last
-pub record Accepted (s : List ℕ) (st : State) (cs : List Component) : Type 0 where
-  pub last : State
-  pub ends : Ends s st last
-  pub refusal : last .refusal ≡ 0
-  pub count : last .count ≡ st .count + length cs
-  pub edges : (j : ℕ) → j ≤ length cs → Edge s (st .count + j) st (st .place + before cs j)
+-- where the walk stands behind the first j of them
+unfoldable pub standing : ℕ → List Component → ℕ → ℕ → ℕ → ℕ → State
+standing zero cs p n l t = on p n l t
+standing (suc j) [] p n l t = on p n l t
+standing (suc j) (c ∷ cs) p n l t = standing j cs (p + length (componentBytes c)) (n + 1) (c .number + 1) (length (tasksOf (c .table)))
 
-pub components-accepted : (s : List ℕ) (cs : List Component) (p n l t : ℕ) → p ≤ length s → Rising l cs → n + length cs ≤ 256 → drop p s ≡ componentsBytes cs ++ endBytes (n + length cs) → Accepted s (on p n l t) cs
-unfolding before componentsBytes ended refuse
-components-accepted s [] p n l t h r few e =
-    let z : n + 0 ≡ n = omega arith in
-    let y : p + 0 ≡ p = omega arith in
-    let s₁ = end-step s p n l t (omega arith) (e ∙ ap endBytes z) in
+-- the walk from a state on takes these components and stops behind the last, and with each count it is held behind as many
+pub record Accepted (s : List ℕ) (cs : List Component) (p n l t : ℕ) : Type 0 where
+  pub ends : Ends s (on p n l t) (ended (standing (length cs) cs p n l t))
+  pub holds : (j : ℕ) → j ≤ length cs → Holds s (n + j) (on p n l t) (standing j cs p n l t)
+
+standing-none : (j p n l t : ℕ) → standing j [] p n l t ≡ on p n l t
+unfolding standing
+standing-none zero p n l t = refl
+standing-none (suc j) p n l t = refl
+
+pub components-accepted : (s : List ℕ) (cs : List Component) (p n l t : ℕ) (tail : List ℕ) → p ≤ length s → Rising l cs → n + length cs ≤ 256 → drop p s ≡ componentsBytes cs ++ tail → Stops (recordOf tail)
+    → Accepted s cs p n l t
+unfolding standing componentsBytes
+components-accepted s [] p n l t tail h r few e o =
+    let s₁ = stop-step s (on p n l t) tail e o in
     record {
-      last = ended (on p n l t);
-      ends = last-ends s (on p n l t) (ended (on p n l t)) refl s₁ refl;
-      refusal = refl;
-      count = sym z;
-      edges = λ j i. rw y (last-edge s (n + j) (on p n l t) (ended (on p n l t)) s₁ refl refl);
+      ends = last-ends s (on p n l t) refl s₁;
+      holds = λ j i. rw (standing-none j p n l t) (last-holds s (n + j) (on p n l t) s₁);
     }
-components-accepted s (c ∷ cs) p n l t h r few e =
-    let m : n + suc (length cs) ≡ n + 1 + length cs = omega arith in
-    let rest : List ℕ = componentsBytes cs ++ endBytes (n + suc (length cs)) in
-    let f : drop p s ≡ componentBytes c ++ rest = e ∙ append-assoc (componentBytes c) (componentsBytes cs) (endBytes (n + suc (length cs))) in
+components-accepted s (c ∷ cs) p n l t tail h r few e o =
+    let rest : List ℕ = componentsBytes cs ++ tail in
+    let f : drop p s ≡ componentBytes c ++ rest = e ∙ append-assoc (componentBytes c) (componentsBytes cs) tail in
     let q : ℕ = p + length (componentBytes c) in
     let w = passes s c p n l t rest h (omega arith) (r .0) (r .1) f in
     let a =
-    components-accepted s cs q (n + 1) (c .number + 1) (length (tasksOf (c .table))) (w .comes .within) (r .2) (omega arith)
-    (behind s p (componentBytes c) rest f ∙ ap (λ (x : ℕ). componentsBytes cs ++ endBytes x) m) in
+    components-accepted s cs q (n + 1) (c .number + 1) (length (tasksOf (c .table))) tail (w .comes .within) (r .2) (omega arith)
+    (behind s p (componentBytes c) rest f) o in
     record {
-      last = a .last;
-      ends = w .comes .ends (a .last) (a .ends);
-      refusal = a .refusal;
-      count = a .count ∙ sym m;
-      edges = edges w a;
+      ends = w .comes .ends (ended (standing (length cs) cs q (n + 1) (c .number + 1) (length (tasksOf (c .table))))) (a .ends);
+      holds = holds w a;
     }
   where
-    edges : Passes s p n l t c → Accepted s (on (p + length (componentBytes c)) (n + 1) (c .number + 1) (length (tasksOf (c .table)))) cs
-        → (j : ℕ) → j ≤ suc (length cs) → Edge s (n + j) (on p n l t) (p + before (c ∷ cs) j)
-    edges w a zero i =
-        let z : n + 0 ≡ n = omega arith in
-        let y : p + 0 ≡ p = omega arith in
-        rw (z, y) (w .begins)
-    edges w a (suc j) i =
+    holds : Passes s p n l t c → Accepted s cs (p + length (componentBytes c)) (n + 1) (c .number + 1) (length (tasksOf (c .table)))
+        → (j : ℕ) → j ≤ suc (length cs) → Holds s (n + j) (on p n l t) (standing j (c ∷ cs) p n l t)
+    holds w a zero i = let z : n + 0 ≡ n = omega arith in rw z (w .begins)
+    holds w a (suc j) i =
         let m : n + suc j ≡ n + 1 + j = omega arith in
-        let q : p + (length (componentBytes c) + before cs j) ≡ p + length (componentBytes c) + before cs j = omega arith in
-        rw (m, q) (w .comes .edges (n + 1 + j) (p + length (componentBytes c) + before cs j) (omega arith) (a .edges j (omega arith)))
+        let x : State = standing j cs (p + length (componentBytes c)) (n + 1) (c .number + 1) (length (tasksOf (c .table))) in
+        rw m (w .comes .holds (n + 1 + j) x (omega arith) (a .holds j (omega arith)))
+
+-- ---- what the walk stands on there
+
+pub standing-place : (j : ℕ) (cs : List Component) (p n l t : ℕ) → standing j cs p n l t .place ≡ p + before j cs
+unfolding standing before
+standing-place zero cs p n l t = omega arith
+standing-place (suc j) [] p n l t = omega arith
+standing-place (suc j) (c ∷ cs) p n l t =
+    let e = standing-place j cs (p + length (componentBytes c)) (n + 1) (c .number + 1) (length (tasksOf (c .table))) in omega arith
+
+pub standing-count : (j : ℕ) (cs : List Component) (p n l t : ℕ) → j ≤ length cs → standing j cs p n l t .count ≡ n + j
+unfolding standing
+standing-count zero cs p n l t h = omega arith
+standing-count (suc j) [] p n l t h = absurd (omega arith)
+standing-count (suc j) (c ∷ cs) p n l t h =
+    let e = standing-count j cs (p + length (componentBytes c)) (n + 1) (c .number + 1) (length (tasksOf (c .table))) (omega arith) in omega arith
+
+-- the number of the last component, as the lowest that may follow, and the count of its tasks
+pub standing-on : (j : ℕ) (cs : List Component) (p n l t : ℕ) → j < length cs
+    → let c = getD cs j refused in let st = standing (suc j) cs p n l t in (st .lowest ≡ c .number + 1) × (st .tasks ≡ length (tasksOf (c .table)))
+unfolding standing
+standing-on j [] p n l t h = absurd (omega arith)
+standing-on zero (c ∷ cs) p n l t h = (refl, refl)
+standing-on (suc j) (c ∷ cs) p n l t h =
+    standing-on j cs (p + length (componentBytes c)) (n + 1) (c .number + 1) (length (tasksOf (c .table))) (omega arith)
+
+pub before-all : (cs : List Component) → before (length cs) cs ≡ length (componentsBytes cs)
+unfolding before componentsBytes
+before-all [] = refl
+before-all (c ∷ cs) = ap (λ (n : ℕ). length (componentBytes c) + n) (before-all cs) ∙ sym (length-append (componentBytes c) (componentsBytes cs))

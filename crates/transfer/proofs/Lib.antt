@@ -1,8 +1,15 @@
 pub mod StoreLaws
 pub mod Accepts
+pub mod Register
+pub mod PairBytes
+pub mod PairsBehind
 pub mod ReadsBack
 pub mod Shape
+pub mod Sheet
 pub mod RoundTrips
+pub mod RecordHere
 pub mod ReadLaws
+pub mod PairTaking
+pub mod PairReads
 pub mod ReadAt
 pub mod ReplyLaws

@@ -1,14 +1,13 @@
--- The sheet of valid components is accepted with their count, and a reading of each gives the component: its part lies between two edges, which are its bytes, and those are read back by the laws of one record.
-use Prim.Native.Nat.{ℕ, zero, suc, _+_, _-_, _^_, _≤_, _<_}
+-- The sheet of valid components and pairs is accepted with the components' count, and a reading of each gives it back: a component's part lies between two edges, which are its bytes, and those are read by the laws of one record.
+use Prim.Native.Nat.{ℕ, zero, suc, _+_, _-_, _*_, _^_, _≤_, _<_}
 use mathlib.Core.Path.{_≡_, refl, sym, ap, _∙_}
-use mathlib.Core.Bool.{true}
+use mathlib.Core.Bool.{true, false}
 use mathlib.Core.List.{List, [], _∷_, _++_, append-assoc}
-use native.Mathlib.Nat.{zero-add}
 use native.Mathlib.Numerals.{add-one}
 use native.Mathlib.Omega.{arith}
 use lib.ListN.{length, getD, take, drop}
 use lib.Seq.{drop-at, drop-drop, take-append-seam, drop-append-seam}
-use borrow.Author.Tests.{le-ltb}
+use borrow.Author.Tests.{lt-ltb, le-ltb}
 use Rattle.budget.specs.declared.component.Component.{Component}
 use Rattle.budget.specs.declared.task.Task.{Task}
 use Rattle.budget.specs.Component.{unitsOf, interfaceOf, refused, withTasks}
@@ -16,19 +15,24 @@ use Rattle.budget.specs.Interface.{interface}
 use Rattle.budget.specs.Task.{T, C, D, validTask, validTasks, tasksOf}
 use Rattle.budget.proofs.Ranges.{in-range}
 use Rattle.budget.proofs.Valid.{valid-task, valid-interface, both}
+use Rattle.record.specs.declared.layout.Pair.{Pair}
 use Rattle.record.specs.declared.layout.Record.the-variants.{TaskRecord}
 use Rattle.record.specs.Layout.{headBytes, taskBytes, endBytes, sizeOf, recordOf}
-use Rattle.record.proofs.RoundRecord.{head, head-back, task-back}
+use Rattle.record.proofs.RoundRecord.{head-back, task-back}
 use Rattle.sheet.specs.declared.check.Checked.{Checked}
-use Rattle.sheet.specs.Judging.{most-bytes, start, opened}
-use Rattle.sheet.specs.Check.{walked, checkedOf, check}
-use Rattle.sheet.specs.Contents.{edgeOf}
+use Rattle.sheet.specs.Check.{most-bytes, checkedOf, check, pairsOf}
+use Rattle.sheet.specs.Pairs.{Nested, pairedFrom, paired}
 use Rattle.sheet.specs.Part.{partCheck, partOf}
+use Rattle.sheet.specs.Register.{walked}
+use Rattle.sheet.proofs.PairLaws.{Closed, walk-takes}
 use Rattle.sheet.proofs.PartLaws.{part-accepted, span-is}
+use Rattle.transfer.specs.Pairing.{noPair, pairReading}
 use Rattle.transfer.specs.Reading.{taskThen, tasksIn, withHead, componentFrom, reading}
-use Rattle.transfer.specs.RoundTrip.{componentsBytes, sheetBytes, returned, Sound, Rising}
+use Rattle.transfer.specs.RoundTrip.{componentsBytes, pairsBytes, sheetBytes, returned, Sound, Rising, entriesOf}
 use Rattle.transfer.specs.Writing.{tasksBytes, componentBytes}
-use Rattle.transfer.proofs.Accepts.{on, task-size, head-size, before, Accepted, components-accepted, few-tasks}
+use Rattle.transfer.proofs.Accepts.{Stops, pair-stops, end-stops, behind, task-size, head-size, before, few-tasks}
+use Rattle.transfer.proofs.PairBytes.{pairs-length, small-numbers, pairs-stand, end-closed}
+use Rattle.transfer.proofs.Register.{Fronted, unrefused, count-is, edge-is, tail-is, register-is}
 
 -- ---- one component from its own bytes
 
@@ -68,73 +72,102 @@ component-back c sound =
 
 -- ---- the part of each component, between two edges
 
-before-none : (cs : List Component) → before cs 0 ≡ 0
-unfolding before
-before-none [] = refl
-before-none (c ∷ cs) = refl
-
-part-at : (cs : List Component) (rest : List ℕ) (j : ℕ) → j < length cs → take (before cs (suc j) - before cs j) (drop (before cs j) (componentsBytes cs ++ rest)) ≡ componentBytes (getD cs j refused)
+part-at : (cs : List Component) (rest : List ℕ) (j : ℕ) → j < length cs → take (before (suc j) cs - before j cs) (drop (before j cs) (componentsBytes cs ++ rest)) ≡ componentBytes (getD cs j refused)
 unfolding before componentsBytes
 part-at [] rest j h = absurd (omega arith)
 part-at (c ∷ cs) rest zero h =
     let b = componentBytes c in
-    let n : length b + before cs 0 - 0 ≡ length b = omega (arith, before-none cs) in
+    let n : length b + 0 - 0 ≡ length b = omega arith in
     rw (n, append-assoc b (componentsBytes cs) rest) (take-append-seam b (componentsBytes cs ++ rest))
 part-at (c ∷ cs) rest (suc j) h =
     let b = componentBytes c in
-    let n : length b + before cs (suc j) - (length b + before cs j) ≡ before cs (suc j) - before cs j = omega arith in
-    rw (n, ← drop-drop (before cs j) (length b) ((b ++ componentsBytes cs) ++ rest), append-assoc b (componentsBytes cs) rest, drop-append-seam b (componentsBytes cs ++ rest))
+    let n : length b + before (suc j) cs - (length b + before j cs) ≡ before (suc j) cs - before j cs = omega arith in
+    rw (n, ← drop-drop (before j cs) (length b) ((b ++ componentsBytes cs) ++ rest), append-assoc b (componentsBytes cs) rest, drop-append-seam b (componentsBytes cs ++ rest))
     (part-at cs rest j (omega arith))
-
--- ---- the whole sheet
-
-abbrev whole : ℕ → Checked
-whole n = record { refusal = 0; place = 0; count = n }
-
-module _ (cs : List Component) (rising : Rising 0 cs) (few : length cs ≤ 256) (short : length (sheetBytes cs) ≤ most-bytes) where
-  opens : sheetBytes cs ≡ componentsBytes cs ++ endBytes (0 + length cs)
-  unfolding sheetBytes
-  opens = ap (λ (n : ℕ). componentsBytes cs ++ endBytes n) (sym (zero-add (length cs)))
-
-  begins : opened (length (sheetBytes cs)) ≡ on 0 0 0 0
-  unfolding opened start
-  begins = rw (le-ltb most-bytes (length (sheetBytes cs)) short)
-
-  accepts : Accepted (sheetBytes cs) (on 0 0 0 0) cs
-  accepts = components-accepted (sheetBytes cs) cs 0 0 0 0 (omega arith) rising (omega arith) opens
-
-  pub sheet-accepted : check (sheetBytes cs) ≡ whole (length cs)
-  unfolding check walked checkedOf
-  sheet-accepted =
-      let a = accepts in
-      let n : a .last .count ≡ length cs = a .count ∙ zero-add (length cs) in
-      rw (begins, a .ends (suc (length (sheetBytes cs))) (omega arith), a .refusal, n)
-
-  edge-is : (k : ℕ) → k ≤ length cs → edgeOf (sheetBytes cs) k ≡ before cs k
-  unfolding edgeOf
-  edge-is k h =
-      let z : 0 + k ≡ k = zero-add k in
-      let y : 0 + before cs k ≡ before cs k = zero-add (before cs k) in
-      rw begins (rw (z, y) at (accepts .edges k h (suc (length (sheetBytes cs))) (omega arith)))
-
-  part-chosen : (k : ℕ) → k < length cs → partCheck (sheetBytes cs) k ≡ whole (length cs)
-  part-chosen k h =
-      part-accepted (sheetBytes cs) k (ap (λ (x : Checked). x .refusal) sheet-accepted) (rw sheet-accepted h) ∙ sheet-accepted
-
-  pub part-is : (k : ℕ) → k < length cs → partOf (sheetBytes cs) k ≡ componentBytes (getD cs k refused)
-  unfolding partOf sheetBytes
-  part-is k h =
-      let e = sheet-accepted in
-      let i = span-is (sheetBytes cs) k (ap (λ (x : Checked). x .refusal) e) (rw e h) in
-      rw (i, edge-is k (omega arith), edge-is (k + 1) (omega arith), add-one k) (part-at cs (endBytes (length cs)) k h)
 
 pub sound-at : (cs : List Component) (l : ℕ) → Rising l cs → (k : ℕ) → k < length cs → Sound (getD cs k refused)
 sound-at [] l r k h = absurd (omega arith)
 sound-at (c ∷ cs) l r zero h = r .1
 sound-at (c ∷ cs) l r (suc k) h = sound-at cs (c .number + 1) (r .2) k (omega arith)
 
-pub reading-back : (cs : List Component) → Rising 0 cs → length cs ≤ 256 → length (sheetBytes cs) ≤ most-bytes → (k : ℕ) → k < length cs
-    → reading (sheetBytes cs) k ≡ record { refusal = 0; place = 0; component = returned (getD cs k refused) }
-unfolding reading
-reading-back cs rising few short k h =
-    rw (part-chosen cs rising few short k h, part-is cs rising few short k h, component-back (getD cs k refused) (sound-at cs 0 rising k h))
+-- ---- the whole sheet
+
+-- valid components whose numbers rise and pairs that the rules take, as many as one sheet holds
+pub record Fitting (cs : List Component) (ps : List Pair) : Type 0 where
+  pub rising : Rising 0 cs
+  pub nested : Nested (entriesOf cs) [] ps
+  pub few : length cs ≤ 256
+  pub short : length (sheetBytes cs ps) ≤ most-bytes
+
+abbrev whole : ℕ → Checked
+whole n = record { refusal = 0; place = 0; count = n }
+
+pub entries-long : (cs : List Component) → length (entriesOf cs) ≡ length cs
+unfolding entriesOf
+entries-long [] = refl
+entries-long (c ∷ cs) = ap suc (entries-long cs)
+
+-- what stands behind the components
+abbrev behindThem : List Component → List Pair → List ℕ
+behindThem cs ps = pairsBytes ps ++ endBytes (length cs)
+
+pairs-stop : (cs : List Component) (ps : List Pair) → Rising 0 cs → Nested (entriesOf cs) [] ps → length cs ≤ 256 → Stops (recordOf (behindThem cs ps))
+unfolding pairsBytes
+pairs-stop cs [] r t few =
+    rw (end-closed (endBytes (length cs)) (entriesOf cs) 0 (omega (arith, entries-long cs)) (ap endBytes (sym (entries-long cs))) .reads) (end-stops (length (entriesOf cs)))
+pairs-stop cs (p ∷ ps) r t few =
+    rw (pairs-stand (behindThem cs (p ∷ ps)) (entriesOf cs) (small-numbers cs 0 r) [] (p ∷ ps) t 0 (endBytes (length cs)) refl .0) (pair-stops p)
+
+module _ (cs : List Component) (ps : List Pair) (v : Fitting cs ps) where
+  abbrev s : List ℕ
+  s = sheetBytes cs ps
+
+  front : Fronted s cs (behindThem cs ps)
+  unfolding sheetBytes
+  front = record { bytes = refl; rising = v .rising; few = v .few; short = v .short; stops = pairs-stop cs ps (v .rising) (v .nested) (v .few) }
+
+  closed : Closed (entriesOf cs) s (walked s .place + 8 * length ps)
+  closed =
+      let e = behind s (walked s .place) (pairsBytes ps) (endBytes (length cs)) (tail-is s cs (behindThem cs ps) front) in
+      end-closed s (entriesOf cs) (walked s .place + 8 * length ps) (omega (arith, entries-long cs, v .few))
+      (rw (pairs-length ps) at e ∙ ap endBytes (sym (entries-long cs)))
+
+  paired-is : paired s ≡ record { going = false; refusal = 0; place = walked s .place + 8 * length ps; pairs = ps }
+  unfolding paired pairedFrom
+  paired-is =
+      let es = entriesOf cs in
+      let c = closed in
+      let stand = pairs-stand s es (small-numbers cs 0 (v .rising)) [] ps (v .nested) (walked s .place) (endBytes (length cs)) (tail-is s cs (behindThem cs ps) front) in
+      rw (register-is s cs (behindThem cs ps) front)
+      (walk-takes es s ps (suc (length s)) (record { going = true; refusal = 0; place = walked s .place; pairs = [] }) refl stand (v .nested) c (omega (arith, c .last)))
+
+  pub sheet-accepted : check s ≡ whole (length cs)
+  unfolding check checkedOf
+  sheet-accepted = rw (unrefused s cs (behindThem cs ps) front, paired-is, count-is s cs (behindThem cs ps) front)
+
+  pub pairs-are : pairsOf s ≡ ps
+  unfolding pairsOf
+  pairs-are = rw (sheet-accepted, paired-is)
+
+  part-chosen : (k : ℕ) → k < length cs → partCheck s k ≡ whole (length cs)
+  part-chosen k h = part-accepted s k (ap (λ (x : Checked). x .refusal) sheet-accepted) (rw sheet-accepted h) ∙ sheet-accepted
+
+  pub part-is : (k : ℕ) → k < length cs → partOf s k ≡ componentBytes (getD cs k refused)
+  unfolding partOf sheetBytes
+  part-is k h =
+      let e = sheet-accepted in
+      let i = span-is s k (ap (λ (x : Checked). x .refusal) e) (rw e h) in
+      let edge = edge-is s cs (behindThem cs ps) front in
+      rw (i, edge k (omega arith), edge (k + 1) (omega arith), add-one k) (part-at cs (behindThem cs ps) k h)
+
+  pub reading-back : (k : ℕ) → k < length cs → reading s k ≡ record { refusal = 0; place = 0; component = returned (getD cs k refused) }
+  unfolding reading
+  reading-back k h = rw (part-chosen k h, part-is k h, component-back (getD cs k refused) (sound-at cs 0 (v .rising) k h))
+
+  pub pair-reading : (k : ℕ) → k < length ps → pairReading s k ≡ record { refusal = 0; place = 0; pair = getD ps k noPair }
+  unfolding pairReading
+  pair-reading k h = rw (sheet-accepted, pairs-are, lt-ltb k (length ps) h)
+
+  pub pair-missing : pairReading s (length ps) ≡ record { refusal = 15; place = 0; pair = noPair }
+  unfolding pairReading
+  pair-missing = rw (sheet-accepted, pairs-are, le-ltb (length ps) (length ps) (omega arith))

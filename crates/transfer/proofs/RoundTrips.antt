@@ -1,30 +1,31 @@
--- The two round trips. Written one after the other, components leave the bytes of their sheet; that sheet is read back, and an accepted sheet is one.
-use Prim.Native.Nat.{ℕ, zero, suc, _+_, _≤_, _<_}
+-- The two round trips. Written one after the other, components and pairs leave the bytes of their sheet; that sheet is read back, and an accepted sheet is one.
+use Prim.Native.Nat.{ℕ, suc, _+_, _≤_, _<_}
 use mathlib.Core.Path.{_≡_, refl, sym, ap, ap₂, subst, _∙_}
-use mathlib.Core.List.{List, [], _∷_, _++_, map}
+use mathlib.Core.List.{List, [], _∷_, _++_, append-assoc}
 use native.Mathlib.Nat.{add-zero, add-assoc, zero-add, suc-add, add-suc}
 use native.Mathlib.Omega.{arith}
 use lib.ListN.{length, getD, take, drop, length-append}
 use lib.Seq.{sets, sets-eq, length-sets, take-append-seam}
-use borrow.Author.Tests.{le-leb, le-ltb}
+use borrow.Author.Tests.{le-leb, lt-ltb, le-ltb}
 use Rattle.budget.specs.declared.component.Component.{Component}
-use Rattle.budget.specs.declared.task.Task.{Task}
 use Rattle.budget.specs.Component.{Same, refused, withTasks}
 use Rattle.budget.specs.Task.{tasksOf, tableOf}
 use Rattle.budget.proofs.EditLaws.{tasks-of-table}
-use Rattle.sheet.specs.declared.check.Checked.{Checked}
-use Rattle.transfer.specs.declared.read.Reading.{Reading}
-use Rattle.sheet.specs.Check.{most-bytes, check}
-use Rattle.record.specs.Field.{Bytes}
-use Rattle.record.specs.Layout.{endBytes}
+use Rattle.record.specs.declared.layout.Pair.{Pair}
+use Rattle.record.specs.Layout.{pairBytes, endBytes}
+use Rattle.sheet.specs.Check.{check, pairsOf}
+use Rattle.sheet.specs.Pairs.{Nested}
 use Rattle.sheet.specs.Part.{partOf}
+use Rattle.sheet.specs.Register.{Entry}
+use Rattle.sheet.proofs.PairLaws.{pair-taken}
+use Rattle.transfer.specs.declared.read.Reading.{Reading}
+use Rattle.transfer.specs.Pairing.{noPair, pairReading, pairWritingRefusal}
 use Rattle.transfer.specs.Reading.{reading}
-use Rattle.transfer.specs.RoundTrip.{componentsBytes, sheetBytes, Page, put, close, putAll, writeAll, readings, SameBytes, PartsRead, returned, Sound, Rising, ReadBack, SameComponents}
-use Rattle.transfer.specs.Writing.{tasksBytes, componentBytes, stored, roomRefusal, writingRefusal, endRefusal, written, buffered}
+use Rattle.transfer.specs.RoundTrip.{componentsBytes, pairsBytes, sheetBytes, Page, put, putPair, close, putAll, putPairs, writeAll, readings, pairReadings, SameBytes, PartsRead, returned, Sound, Rising, entriesOf, ReadBack, SameComponents}
+use Rattle.transfer.specs.Writing.{componentBytes, stored, roomRefusal, writingRefusal, endRefusal, written, buffered}
 use Rattle.transfer.proofs.Accepts.{tasks-full}
-use Rattle.sheet.proofs.ContentsLaws.{taken}
-use Rattle.transfer.proofs.ReadsBack.{sheet-accepted, part-is, reading-back, sound-at}
-use Rattle.transfer.proofs.Shape.{Shape, accepted-short, accepted-shape}
+use Rattle.transfer.proofs.ReadsBack.{Fitting, sheet-accepted, part-is, reading-back, pair-reading, pair-missing, sound-at}
+use Rattle.transfer.proofs.Sheet.{accepted-sheet}
 use Rattle.transfer.proofs.StoreLaws.{sets-append}
 
 -- ---- writing
@@ -41,6 +42,12 @@ unfolding put writingRefusal roomRefusal written buffered stored
 put-is b at c sound h =
     rw (sound .ranges, le-leb (at + length (componentBytes c)) (length b) h)
     (ap (λ (l : List ℕ). page l (at + length (componentBytes c))) (sym (sets-eq (componentBytes c) b at h)))
+
+pair-is : (b : List ℕ) (at : ℕ) (p : Pair) → p .child < p .parent → at + length (pairBytes p) ≤ length b → putPair (page b at) p ≡ after b at (pairBytes p)
+unfolding putPair pairWritingRefusal roomRefusal written buffered stored
+pair-is b at p larger h =
+    rw (lt-ltb (p .child) (p .parent) larger, le-leb (at + length (pairBytes p)) (length b) h)
+    (ap (λ (l : List ℕ). page l (at + length (pairBytes p))) (sym (sets-eq (pairBytes p) b at h)))
 
 close-is : (b : List ℕ) (at count : ℕ) → count ≤ 256 → at + length (endBytes count) ≤ length b → close (page b at) count ≡ after b at (endBytes count)
 unfolding close endRefusal roomRefusal written buffered stored
@@ -62,110 +69,106 @@ put-all (c ∷ cs) l r b at h =
     ∙ (put-all cs (c .number + 1) (r .2) (sets b at (componentBytes c)) (at + length (componentBytes c)) (omega arith)
     ∙ after-both b at (componentBytes c) (componentsBytes cs))
 
+put-pairs : (es : List Entry) (earlier ps : List Pair) → Nested es earlier ps → (b : List ℕ) (at : ℕ) → at + length (pairsBytes ps) ≤ length b → putPairs (page b at) ps ≡ after b at (pairsBytes ps)
+unfolding putPairs pairsBytes
+put-pairs es earlier [] t b at h = ap (page b) (sym (add-zero at))
+put-pairs es earlier (p ∷ ps) t b at h =
+    let n : length (pairBytes p ++ pairsBytes ps) ≡ length (pairBytes p) + length (pairsBytes ps) = length-append (pairBytes p) (pairsBytes ps) in
+    let m = length-sets b at (pairBytes p) in
+    ap (λ (x : Page). putPairs x ps) (pair-is b at p (pair-taken es earlier p (t .0) .larger) (omega arith))
+    ∙ (put-pairs es (earlier ++ (p ∷ [])) ps (t .1) (sets b at (pairBytes p)) (at + length (pairBytes p)) (omega arith)
+    ∙ after-both b at (pairBytes p) (pairsBytes ps))
+
 whole-page : (b bytes : List ℕ) → length bytes ≤ length b → after b 0 bytes ≡ page (bytes ++ drop (length bytes) b) (length bytes)
 whole-page b bytes h =
     let z : 0 + length bytes ≡ length bytes = zero-add (length bytes) in
     ap₂ page (sets-eq bytes b 0 (omega arith) ∙ ap (λ (n : ℕ). bytes ++ drop n b) z) z
 
-pub write-all : (cs : List Component) (l : ℕ) → Rising l cs → length cs ≤ 256 → (b : List ℕ) → length (sheetBytes cs) ≤ length b → writeAll b cs ≡ page (sheetBytes cs ++ drop (length (sheetBytes cs)) b) (length (sheetBytes cs))
+write-all : (cs : List Component) (ps : List Pair) → Fitting cs ps → (b : List ℕ) → length (sheetBytes cs ps) ≤ length b
+    → writeAll b cs ps ≡ page (sheetBytes cs ps ++ drop (length (sheetBytes cs ps)) b) (length (sheetBytes cs ps))
 unfolding writeAll sheetBytes
-write-all cs l r few b h =
-    let n : length (componentsBytes cs ++ endBytes (length cs)) ≡ length (componentsBytes cs) + length (endBytes (length cs)) = length-append (componentsBytes cs) (endBytes (length cs)) in
-    let m = length-sets b 0 (componentsBytes cs) in
-    ap (λ (p : Page). close p (length cs)) (put-all cs l r b 0 (omega arith))
-    ∙ (close-is (sets b 0 (componentsBytes cs)) (0 + length (componentsBytes cs)) (length cs) few (omega arith)
-    ∙ (after-both b 0 (componentsBytes cs) (endBytes (length cs))
-    ∙ whole-page b (componentsBytes cs ++ endBytes (length cs)) h))
+write-all cs ps v b h =
+    let C = componentsBytes cs in
+    let P = pairsBytes ps in
+    let E = endBytes (length cs) in
+    let n : length (C ++ (P ++ E)) ≡ length C + length (P ++ E) = length-append C (P ++ E) in
+    let m : length (P ++ E) ≡ length P + length E = length-append P E in
+    let o : length (C ++ P) ≡ length C + length P = length-append C P in
+    let i = length-sets b 0 C in
+    let j = length-sets b 0 (C ++ P) in
+    ap (λ (x : Page). close (putPairs x ps) (length cs)) (put-all cs 0 (v .rising) b 0 (omega arith))
+    ∙ (ap (λ (x : Page). close x (length cs)) (put-pairs (entriesOf cs) [] ps (v .nested) (sets b 0 C) (0 + length C) (omega arith) ∙ after-both b 0 C P)
+    ∙ (close-is (sets b 0 (C ++ P)) (0 + length (C ++ P)) (length cs) (v .few) (omega arith)
+    ∙ (after-both b 0 (C ++ P) E
+    ∙ (ap (after b 0) (append-assoc C P E) ∙ whole-page b (C ++ (P ++ E)) h))))
 
--- ---- valid components are read back the same
+-- ---- valid components and pairs are read back the same
 
 same-returned : (c : Component) → Sound c → Same (returned c) c
 unfolding withTasks tableOf
 same-returned c sound =
     record { number = refl; period = refl; capacity = refl; deadline = refl; count = tasks-full c sound; tasks = tasks-of-table (tasksOf (c .table)) }
 
-read-back : (cs : List Component) → Rising 0 cs → length cs ≤ 256 → length (sheetBytes cs) ≤ most-bytes → ReadBack (sheetBytes cs) cs
-read-back cs rising few short =
+read-back : (cs : List Component) (ps : List Pair) → Fitting cs ps → ReadBack (sheetBytes cs ps) cs ps
+read-back cs ps v =
     record {
-      accepted = sheet-accepted cs rising few short;
-      read = reading-back cs rising few short;
+      accepted = sheet-accepted cs ps v;
+      read = reading-back cs ps v;
       same =
           λ k h.
-          subst (λ (x : Reading). Same (x .component) (getD cs k refused)) (sym (reading-back cs rising few short k h))
-          (same-returned (getD cs k refused) (sound-at cs 0 rising k h));
+          subst (λ (x : Reading). Same (x .component) (getD cs k refused)) (sym (reading-back cs ps v k h))
+          (same-returned (getD cs k refused) (sound-at cs 0 (v .rising) k h));
+      paired = pair-reading cs ps v;
+      no-more = pair-missing cs ps v;
     }
 
 pub same-components : SameComponents
-same-components cs rising few short b h =
-    let e = write-all cs 0 rising few b h in (
+same-components cs ps rising nested few short b h =
+    let v : Fitting cs ps = record { rising = rising; nested = nested; few = few; short = short } in
+    let e = write-all cs ps v b h in (
       e,
-      subst (λ (s : List ℕ). ReadBack s cs)
-          (sym (ap (λ (p : Page). take (p .place) (p .buffer)) e ∙ take-append-seam (sheetBytes cs) (drop (length (sheetBytes cs)) b)))
-          (read-back cs rising few short),
+      subst (λ (s : List ℕ). ReadBack s cs ps)
+          (sym (ap (λ (p : Page). take (p .place) (p .buffer)) e ∙ take-append-seam (sheetBytes cs ps) (drop (length (sheetBytes cs ps)) b)))
+          (read-back cs ps v),
     )
 
 -- ---- an accepted sheet is written back the same
 
-readings-are : (s : List ℕ) (cs : List Component) (k : ℕ) → ((j : ℕ) → j < length cs → reading s (k + j) .component ≡ returned (getD cs j refused)) → readings s k (length cs) ≡ map returned cs
+readings-are : (s : List ℕ) (cs : List Component) (k : ℕ) → ((j : ℕ) → reading s (k + j) .component ≡ getD cs j refused) → readings s k (length cs) ≡ cs
 unfolding readings
 readings-are s [] k h = refl
 readings-are s (c ∷ cs) k h =
-    ap₂ _∷_ (ap (λ (i : ℕ). reading s i .component) (sym (add-zero k)) ∙ h 0 (omega arith))
-    (readings-are s cs (suc k) (λ j l. ap (λ (i : ℕ). reading s i .component) (suc-add k j ∙ sym (add-suc k j)) ∙ h (suc j) (omega arith)))
+    ap₂ _∷_ (ap (λ (i : ℕ). reading s i .component) (sym (add-zero k)) ∙ h 0)
+    (readings-are s cs (suc k) (λ j. ap (λ (i : ℕ). reading s i .component) (suc-add k j ∙ sym (add-suc k j)) ∙ h (suc j)))
 
--- what is known of a sheet that is not refused
-pub short-enough : (s : List ℕ) → check s .refusal ≡ 0 → length s ≤ most-bytes
-short-enough s e = accepted-short s (taken s e .unrefused)
+pairs-read : (s : List ℕ) (ps : List Pair) (k : ℕ) → ((j : ℕ) → j < length ps → pairReading s (k + j) .pair ≡ getD ps j noPair) → pairReadings s k (length ps) ≡ ps
+unfolding pairReadings
+pairs-read s [] k h = refl
+pairs-read s (p ∷ ps) k h =
+    ap₂ _∷_ (ap (λ (i : ℕ). pairReading s i .pair) (sym (add-zero k)) ∙ h 0 (omega arith))
+    (pairs-read s ps (suc k) (λ j l. ap (λ (i : ℕ). pairReading s i .pair) (suc-add k j ∙ sym (add-suc k j)) ∙ h (suc j) (omega arith)))
 
-pub accepted-sheet : (s : List ℕ) → Bytes s → check s .refusal ≡ 0 → Shape s 0 0 0 0
-accepted-sheet s bytes e = accepted-shape s bytes (taken s e .unrefused)
-
-pub sheet-of : (s : List ℕ) (h : Shape s 0 0 0 0) → s ≡ sheetBytes (h .cs)
-unfolding sheetBytes tasksBytes
-sheet-of s h =
-    h .bytes
-    ∙ (ap (λ (ks : List Task). tasksBytes ks ++ (componentsBytes (h .cs) ++ endBytes (0 + length (h .cs)))) (h .none refl)
-    ∙ ap (λ (n : ℕ). componentsBytes (h .cs) ++ endBytes n) (zero-add (length (h .cs))))
-
-again : (b : List ℕ) (cs : List Component) → Rising 0 cs → length cs ≤ 256 → map returned cs ≡ cs → length (sheetBytes cs) ≤ most-bytes → length (sheetBytes cs) ≤ length b
-    → writeAll b (readings (sheetBytes cs) 0 (check (sheetBytes cs) .count)) ≡ page (sheetBytes cs ++ drop (length (sheetBytes cs)) b) (length (sheetBytes cs))
-again b cs rising few same short room =
-    let s = sheetBytes cs in
-    let count : check s .count ≡ length cs = ap (λ (x : Checked). x .count) (sheet-accepted cs rising few short) in
-    let back : (j : ℕ) → j < length cs → reading s (0 + j) .component ≡ returned (getD cs j refused) =
-    λ j h. ap (λ (i : ℕ). reading s i .component) (zero-add j) ∙ ap (λ (x : Reading). x .component) (reading-back cs rising few short j h) in
-    ap (λ (n : ℕ). writeAll b (readings s 0 n)) count
-    ∙ (ap (writeAll b) (readings-are s cs 0 back ∙ same) ∙ write-all cs 0 rising few b room)
-
-same-sheet : (s b : List ℕ) → length s ≤ most-bytes → length s ≤ length b → (h : Shape s 0 0 0 0) → writeAll b (readings s 0 (check s .count)) ≡ page (s ++ drop (length s) b) (length s)
-same-sheet s b short room h =
-    let cs = h .cs in
-    let e : s ≡ sheetBytes cs = sheet-of s h in
-    let few : length cs ≤ 256 = omega (arith, h .most) in
-    subst (λ (x : List ℕ). writeAll b (readings x 0 (check x .count)) ≡ page (x ++ drop (length x) b) (length x)) (sym e)
-    (again b cs (h .rising) few (h .same) (subst (λ (x : List ℕ). length x ≤ most-bytes) e short) (subst (λ (x : List ℕ). length x ≤ length b) e room))
+-- each pair of an accepted sheet is read at its place
+pair-read : (s : List ℕ) → check s .refusal ≡ 0 → (k : ℕ) → k < length (pairsOf s) → pairReading s k .pair ≡ getD (pairsOf s) k noPair
+unfolding pairReading
+pair-read s e k h = rw (e, lt-ltb k (length (pairsOf s)) h)
 
 pub same-bytes : SameBytes
-same-bytes s bytes e b room = same-sheet s b (short-enough s e) room (accepted-sheet s bytes e)
+same-bytes s bytes e b room =
+    let w = accepted-sheet s bytes e in
+    let q = w .bytes in
+    let components : readings s 0 (check s .count) ≡ w .cs =
+    ap (readings s 0) (w .count) ∙ readings-are s (w .cs) 0 (λ j. ap (λ (i : ℕ). reading s i .component) (zero-add j) ∙ w .reads j) in
+    let pairs : pairReadings s 0 (length (pairsOf s)) ≡ pairsOf s =
+    pairs-read s (pairsOf s) 0 (λ j h. ap (λ (i : ℕ). pairReading s i .pair) (zero-add j) ∙ pair-read s e j h) in
+    ap₂ (writeAll b) components (pairs ∙ w .pairs)
+    ∙ (write-all (w .cs) (w .ps) (w .fits) b (subst (λ (x : List ℕ). length x ≤ length b) q room)
+    ∙ ap (λ (x : List ℕ). page (x ++ drop (length x) b) (length x)) (sym q))
 
 -- ---- each part of an accepted sheet is the bytes of its component
-
-returned-at : (cs : List Component) → map returned cs ≡ cs → (k : ℕ) → k < length cs → returned (getD cs k refused) ≡ getD cs k refused
-returned-at [] e k h = absurd (omega arith)
-returned-at (c ∷ cs) e zero h = ap (λ (x : List Component). getD x 0 refused) e
-returned-at (c ∷ cs) e (suc k) h = returned-at cs (ap (drop 1) e) k (omega arith)
-
-part-read : (cs : List Component) → Rising 0 cs → length cs ≤ 256 → map returned cs ≡ cs → length (sheetBytes cs) ≤ most-bytes → (k : ℕ) → k < check (sheetBytes cs) .count
-    → partOf (sheetBytes cs) k ≡ componentBytes (reading (sheetBytes cs) k .component)
-part-read cs rising few same short k h =
-    let l : k < length cs = subst (λ (x : Checked). k < x .count) (sheet-accepted cs rising few short) h in
-    part-is cs rising few short k l
-    ∙ sym (ap (λ (x : Reading). componentBytes (x .component)) (reading-back cs rising few short k l) ∙ ap componentBytes (returned-at cs same k l))
 
 pub parts-read : PartsRead
 parts-read s bytes e k h =
     let w = accepted-sheet s bytes e in
-    let few : length (w .cs) ≤ 256 = omega (arith, w .most) in
-    let q : s ≡ sheetBytes (w .cs) = sheet-of s w in
-    subst (λ (x : List ℕ). k < check x .count → partOf x k ≡ componentBytes (reading x k .component)) (sym q)
-    (part-read (w .cs) (w .rising) few (w .same) (subst (λ (x : List ℕ). length x ≤ most-bytes) q (short-enough s e)) k) h
+    ap (λ (x : List ℕ). partOf x k) (w .bytes)
+    ∙ (part-is (w .cs) (w .ps) (w .fits) k (subst (λ (n : ℕ). k < n) (w .count) h) ∙ ap componentBytes (sym (w .reads k)))

@@ -1,14 +1,13 @@
--- An accepted sheet is the sheet of some valid components in rising number: undone record by record, the walk's last steps first.
+-- A sheet whose walk is not refused begins with valid components in rising number, up to a record that ends them: undone record by record, the walk's last steps first.
 use Prim.Native.Nat.{ℕ, zero, suc, _+_, _-_, _≤_, _<_}
 use mathlib.Core.Path.{_≡_, refl, sym, ap, ap₂, _∙_}
-use mathlib.Core.Bool.{true, false}
-use mathlib.Core.List.{List, [], _∷_, _++_, map, append-assoc, append-nil}
-use native.Mathlib.Nat.{add-zero, le-of-eq}
+use mathlib.Core.Bool.{true}
+use mathlib.Core.List.{List, [], _∷_, _++_, map, append-assoc}
 use native.Mathlib.Omega.{arith}
-use lib.ListN.{length, drop, replicate, length-append, length-replicate, length-drop, drop-of-length-le}
+use lib.ListN.{length, drop, replicate, length-append, length-replicate}
 use lib.Seq.{drop-drop, getD-drop}
-use lib.Dec.{ltb, eqb}
-use borrow.Author.Tests.{ltb-false, eqb-true, eqb-false}
+use lib.Dec.{eqb}
+use borrow.Author.Tests.{le-ltb, eqb-true, eqb-false}
 use Rattle.budget.specs.declared.component.Component.{Component}
 use Rattle.budget.specs.declared.task.Task.{Task}
 use Rattle.budget.specs.Component.{unitsOf, interfaceOf, withTasks}
@@ -21,31 +20,35 @@ use Rattle.budget.proofs.Valid.{and-true}
 use Rattle.sheet.specs.declared.judging.State.{State}
 use Rattle.record.specs.declared.layout.Head.{Head}
 use Rattle.record.specs.declared.layout.Record.{Record}
-use Rattle.record.specs.declared.layout.Record.the-variants.{ComponentRecord, TaskRecord, EndRecord, NoRecord}
+use Rattle.record.specs.declared.layout.Record.the-variants.{ComponentRecord, TaskRecord, PairRecord, EndRecord, NoRecord}
 use Rattle.record.specs.Field.{Bytes}
-use Rattle.record.specs.Layout.{headBytes, headSize, taskBytes, endBytes, recordBytes, sizeOf, recordOf}
+use Rattle.record.specs.Layout.{headBytes, headSize, taskBytes, recordBytes, sizeOf, recordOf}
 use Rattle.sheet.specs.Judging.{most-bytes, start, refuse, opened, recordRefusal, afterHead, afterTask, after, judged}
 use Rattle.sheet.specs.Walk.{step, walk}
-use Rattle.sheet.specs.Check.{walked}
-use Rattle.sheet.proofs.JudgingLaws.{some-head, HeadTaken, head-taken, TaskTaken, task-taken, EndTaken, end-taken}
+use Rattle.sheet.specs.Register.{walked}
+use Rattle.sheet.proofs.JudgingLaws.{some-head, HeadTaken, head-taken, TaskTaken, task-taken}
 use Rattle.transfer.specs.RoundTrip.{componentsBytes, returned, Sound, Rising}
 use Rattle.transfer.specs.Reading.{withHead}
 use Rattle.transfer.specs.Writing.{tasksBytes, componentBytes}
 use Rattle.record.proofs.Cases.{cases}
 use Rattle.record.proofs.RoundRecord.{Faithful, faithful}
+use Rattle.sheet.proofs.HeldLaws.{unrefused-short}
 use Rattle.sheet.proofs.WalkLaws.{walk-on, walk-stopped, room-of}
+use Rattle.transfer.proofs.Accepts.{Stops, pair-stops, end-stops}
 
--- what stands from a place on, where the walk goes on from there and accepts: tasks of the last component, further components, the end record
+-- what stands from a place on, where the walk goes on from there and accepts: tasks of the last component, further components, a record that ends them
 pub record Shape (s : List ℕ) (p count lowest tasks : ℕ) : Type 0 where
   pub ks : List Task
   pub cs : List Component
-  pub bytes : drop p s ≡ tasksBytes ks ++ (componentsBytes cs ++ endBytes (count + length cs))
+  pub tail : List ℕ
+  pub bytes : drop p s ≡ tasksBytes ks ++ (componentsBytes cs ++ tail)
   pub valid : validTasks ks ≡ true
   pub few : tasks + length ks ≤ 64
   pub none : count ≡ 0 → ks ≡ []
   pub rising : Rising lowest cs
   pub most : count + length cs ≤ 256
   pub same : map returned cs ≡ cs
+  pub stops : Stops (recordOf tail)
 
 -- a walk that stopped with a refusal does not accept, so a record that it went on from was taken
 module _ (f : ℕ) (s : List ℕ) where
@@ -56,10 +59,10 @@ module _ (f : ℕ) (s : List ℕ) where
   unfolding Accepts refuse
   refused-not n st h a = h (sym (ap (λ (x : State). x .refusal) (walk-stopped judged f s (refuse n st) refl)) ∙ a)
 
-  taken : (st : State) (r : Record) (left : ℕ) → Accepts (judged st r left) → (recordRefusal st r left ≡ 0) × Accepts (after st r)
+  taken : (st : State) (r : Record) → Accepts (judged st r) → (recordRefusal st r ≡ 0) × Accepts (after st r)
   unfolding judged
-  taken st r left =
-      let n : ℕ = recordRefusal st r left in
+  taken st r =
+      let n : ℕ = recordRefusal st r in
       cases (λ (x : State). Accepts x → (n ≡ 0) × Accepts (after st r)) (eqb n 0) (λ p a. (eqb-true n 0 p, a)) (λ p a. absurd (refused-not n st (eqb-false n 0 p) a))
 
 -- ---- one record that is taken, by its kind; what stands behind it has a shape
@@ -68,22 +71,21 @@ module _ (s : List ℕ) (st : State) where
   Here : Type 0
   Here = Shape s (st .place) (st .count) (st .lowest) (st .tasks)
 
-  end-shape : (n left : ℕ) → EndTaken st n left → st .count ≤ 256 → st .tasks ≤ 64 → left ≡ length s - st .place → Faithful (drop (st .place) s) (EndRecord n) → Here
-  unfolding Here tasksBytes componentsBytes validTasks sizeOf
-  end-shape n left t most few l w =
-      let c : n ≡ st .count + 0 = t .counted ∙ sym (add-zero (st .count)) in
-      let six : length (drop (st .place) s) ≤ 6 = le-of-eq (length-drop (st .place) s ∙ (sym l ∙ t .last)) in
-      let over : drop 6 (drop (st .place) s) ≡ [] = drop-of-length-le (drop (st .place) s) {i = 6} six in
+  end-shape : (r : Record) → recordOf (drop (st .place) s) ≡ r → Stops r → st .count ≤ 256 → st .tasks ≤ 64 → Here
+  unfolding Here tasksBytes componentsBytes validTasks
+  end-shape r e o most few =
       record {
         ks = [];
         cs = [];
-        bytes = w ∙ (ap (λ (x : List ℕ). endBytes n ++ x) over ∙ (append-nil (endBytes n) ∙ ap endBytes c));
+        tail = drop (st .place) s;
+        bytes = refl;
         valid = refl;
         few = omega arith;
-        none = λ e. refl;
+        none = λ z. refl;
         rising = tt;
         most = omega arith;
         same = refl;
+        stops = rw e o;
       }
 
   task-shape : (k : Task) → TaskTaken st k → Faithful (drop (st .place) s) (TaskRecord k) → Shape s (st .place + sizeOf (TaskRecord k)) (st .count) (st .lowest) (st .tasks + 1) → Here
@@ -92,20 +94,22 @@ module _ (s : List ℕ) (st : State) where
       record {
         ks = k ∷ n .ks;
         cs = n .cs;
+        tail = n .tail;
         bytes =
             w
             ∙ (ap (λ (x : List ℕ). taskBytes k ++ x) (drop-drop 16 (st .place) s ∙ n .bytes)
-            ∙ sym (append-assoc (taskBytes k) (tasksBytes (n .ks)) (componentsBytes (n .cs) ++ endBytes (st .count + length (n .cs)))));
+            ∙ sym (append-assoc (taskBytes k) (tasksBytes (n .ks)) (componentsBytes (n .cs) ++ n .tail)));
         valid = and-true (passed (validTask k) (t .ranges)) (n .valid);
         few = omega (arith, n .few);
         none = λ e. absurd (t .some e);
         rising = n .rising;
         most = n .most;
         same = n .same;
+        stops = n .stops;
       }
 
-regroup : (h ts cs c : List ℕ) (n m : ℕ) → c ≡ h ++ ts → n ≡ m → h ++ (ts ++ (cs ++ endBytes n)) ≡ (c ++ cs) ++ endBytes m
-regroup h ts cs c n m e q = rw (e, q) (simp append-assoc)
+regroup : (h ts cs c tail : List ℕ) → c ≡ h ++ ts → h ++ (ts ++ (cs ++ tail)) ≡ (c ++ cs) ++ tail
+regroup h ts cs c tail e = rw e (simp append-assoc)
 
 -- ---- the component of a record and the tasks behind it
 
@@ -132,62 +136,59 @@ head-shape : (s : List ℕ) (st : State) (h : Head) → HeadTaken st h → Faith
 unfolding Here tasksBytes componentsBytes validTasks withHead sizeOf
 head-shape s st h t w low n =
     let c = withHead h (n .ks) in
-    let m : st .count + 1 + length (n .cs) ≡ st .count + suc (length (n .cs)) = omega arith in
     record {
       ks = [];
       cs = c ∷ n .cs;
+      tail = n .tail;
       bytes =
           w .1
           ∙ (ap (λ (x : List ℕ). recordBytes (ComponentRecord h) ++ x) (drop-drop (headSize (h .capacity)) (st .place) s ∙ n .bytes)
-          ∙ regroup (recordBytes (ComponentRecord h)) (tasksBytes (n .ks)) (componentsBytes (n .cs)) (componentBytes c) (st .count + 1 + length (n .cs)) (st .count + suc (length (n .cs))) (head-bytes h (n .ks)) m);
+          ∙ regroup (recordBytes (ComponentRecord h)) (tasksBytes (n .ks)) (componentsBytes (n .cs)) (componentBytes c) (n .tail) (head-bytes h (n .ks)));
       valid = refl;
       few = omega arith;
       none = λ e. refl;
       rising = (t .rises, sound-head h (n .ks) (w .0) (t .ranges) (omega (arith, n .few)) (n .valid), n .rising);
       most = omega (arith, n .most);
       same = ap₂ _∷_ (same-head h (n .ks)) (n .same);
+      stops = n .stops;
     }
 
 -- ---- the whole walk
 
 -- an accepted walk begins with a sheet that is not too long
-begun : (s : List ℕ) → walked s .refusal ≡ 0 → (ltb most-bytes (length s) ≡ false) × Accepts (suc (length s)) s start
+begun : (s : List ℕ) → walked s .refusal ≡ 0 → Accepts (suc (length s)) s start
 unfolding Accepts walked opened
-begun s =
-    cases (λ (x : State). Accepts (suc (length s)) s x → (ltb most-bytes (length s) ≡ false) × Accepts (suc (length s)) s start) (ltb most-bytes (length s))
-    (λ p a. absurd (refused-not (suc (length s)) s 14 start (λ e. omega (arith, e)) a)) (λ p a. (p, a))
-
-pub accepted-short : (s : List ℕ) → walked s .refusal ≡ 0 → length s ≤ most-bytes
-accepted-short s a = ltb-false most-bytes (length s) (begun s a .0)
+begun s a = rw (le-ltb most-bytes (length s) (unrefused-short s a)) at a
 
 module _ (s : List ℕ) (b : Bytes s) where
   bytes-from : (p : ℕ) → Bytes (drop p s)
   bytes-from p i = rw getD-drop (b (p + i))
 
-  record-shape : (f : ℕ) (st : State) (r : Record) (left : ℕ) → left ≡ length s - st .place → Faithful (drop (st .place) s) r → st .place + sizeOf r ≤ length s → st .tasks ≤ 64 → st .count ≤ 256
-      → recordRefusal st r left ≡ 0 → Accepts f s (after st r)
+  record-shape : (f : ℕ) (st : State) (r : Record) → recordOf (drop (st .place) s) ≡ r → Faithful (drop (st .place) s) r → st .place + sizeOf r ≤ length s → st .tasks ≤ 64 → st .count ≤ 256
+      → recordRefusal st r ≡ 0 → Accepts f s (after st r)
       → ((next : State) → next .going ≡ true → next .place ≤ length s → st .place < next .place → next .tasks ≤ 64 → next .count ≤ 256 → Accepts f s next → Shape s (next .place) (next .count) (next .lowest) (next .tasks))
       → Shape s (st .place) (st .count) (st .lowest) (st .tasks)
   unfolding recordRefusal after Here sizeOf afterHead afterTask
-  record-shape f st (ComponentRecord h) left l w room few most e a next =
+  record-shape f st (ComponentRecord h) i w room few most e a next =
       let some = some-head (h .capacity) in
       let t = head-taken st h e in
       head-shape s st h t w few (next (afterHead st h) refl room (omega arith) (omega arith) (omega (arith, t .few)) a)
-  record-shape f st (TaskRecord k) left l w room few most e a next =
+  record-shape f st (TaskRecord k) i w room few most e a next =
       let t = task-taken st k e in
       task-shape s st k t w (next (afterTask st k) refl room (omega arith) (omega (arith, t .few)) most a)
-  record-shape f st (EndRecord n) left l w room few most e a next = end-shape s st n left (end-taken st n left e) most few l w
-  record-shape f st (NoRecord n) left l w room few most e a next = absurd (w e)
+  record-shape f st (PairRecord p) i w room few most e a next = end-shape s st (PairRecord p) i (pair-stops p) most few
+  record-shape f st (EndRecord n) i w room few most e a next = end-shape s st (EndRecord n) i (end-stops n) most few
+  record-shape f st (NoRecord n) i w room few most e a next = absurd (w e)
 
   shape : (f : ℕ) (st : State) → st .going ≡ true → st .place ≤ length s → length s - st .place < f → st .tasks ≤ 64 → st .count ≤ 256 → Accepts f s st → Shape s (st .place) (st .count) (st .lowest) (st .tasks)
   unfolding Accepts step
   shape zero st g h l few most a = absurd (omega arith)
   shape (suc f) st g h l few most a =
       let r : Record = recordOf (drop (st .place) s) in
-      let t = taken f s st r (length s - st .place) (sym (ap (λ (x : State). x .refusal) (walk-on judged f s st g)) ∙ a) in
-      record-shape f st r (length s - st .place) refl (faithful (drop (st .place) s) (bytes-from (st .place))) (room-of s (st .place) h) few most (t .0) (t .1)
+      let t = taken f s st r (sym (ap (λ (x : State). x .refusal) (walk-on judged f s st g)) ∙ a) in
+      record-shape f st r refl (faithful (drop (st .place) s) (bytes-from (st .place))) (room-of s (st .place) h) few most (t .0) (t .1)
       (λ next g′ h′ m′ few′ most′ a′. shape f next g′ h′ (omega arith) few′ most′ a′)
 
   pub accepted-shape : walked s .refusal ≡ 0 → Shape s 0 0 0 0
   unfolding start
-  accepted-shape a = shape (suc (length s)) start refl (omega arith) (omega arith) (omega arith) (omega arith) (begun s a .1)
+  accepted-shape a = shape (suc (length s)) start refl (omega arith) (omega arith) (omega arith) (omega arith) (begun s a)

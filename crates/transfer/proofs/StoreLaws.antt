@@ -14,9 +14,10 @@ use Rattle.budget.specs.declared.task.Task.{Task}
 use Rattle.budget.specs.Component.{rangeRefusal}
 use Rattle.budget.specs.Task.{noTask, tasksOf}
 use Rattle.budget.proofs.Places.{places, from-place, from-end}
-use Rattle.record.specs.declared.layout.Record.the-variants.{ComponentRecord, TaskRecord, EndRecord}
+use Rattle.record.specs.declared.layout.Pair.{Pair}
+use Rattle.record.specs.declared.layout.Record.the-variants.{ComponentRecord, TaskRecord, PairRecord, EndRecord}
 use Rattle.record.specs.declared.write.Written.{Written}
-use Rattle.record.specs.Layout.{headBytes, headSize, taskBytes, endBytes, recordBytes, sizeOf}
+use Rattle.record.specs.Layout.{headBytes, headSize, taskBytes, pairBytes, endBytes, recordBytes, sizeOf}
 use Rattle.record.specs.Writing.{stored, roomRefusal, written, buffered}
 use Rattle.transfer.specs.Writing.{tasksBytes, componentBytes, writingRefusal}
 use Rattle.record.proofs.Cases.{cases}
@@ -73,11 +74,15 @@ module _ (start : List ℕ) (at count : ℕ) (tasks : List Task) (fits : count �
     unfolding tasksBytes
     storing-all h = ap (λ (ks : List Task). sets buffer place (tasksBytes ks)) (sym (from-end count tasks fits i h)) ∙ w .todo
 
--- ---- whole components, and the end record
+-- ---- whole components, pairs and the end record
 
 pub head-length : (number period : ℕ) (c : Capacity) (deadline : ℕ) → length (headBytes number period c deadline) ≡ headSize c
 unfolding recordBytes sizeOf
 head-length number period c deadline = record-length (ComponentRecord (record { number = number; period = record { 0 = period }; capacity = c; deadline = record { 0 = deadline } }))
+
+pub pair-length : (p : Pair) → length (pairBytes p) ≡ 8
+unfolding recordBytes sizeOf
+pair-length p = record-length (PairRecord p)
 
 pub end-length : (count : ℕ) → length (endBytes count) ≡ 6
 unfolding recordBytes sizeOf

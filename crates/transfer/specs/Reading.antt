@@ -12,7 +12,7 @@ use Rattle.budget.specs.Refusal as refusal
 use Rattle.budget.specs.Task.{tableOf}
 use Rattle.record.specs.declared.layout.Head.{Head}
 use Rattle.record.specs.declared.layout.Record.{Record}
-use Rattle.record.specs.declared.layout.Record.the-variants.{ComponentRecord, TaskRecord, EndRecord, NoRecord}
+use Rattle.record.specs.declared.layout.Record.the-variants.{ComponentRecord, TaskRecord, PairRecord, EndRecord, NoRecord}
 use Rattle.record.specs.Layout.{sizeOf, recordOf}
 use Rattle.sheet.specs.Part.{partCheck, partOf}
 use Rattle.transfer.specs.declared.read.Reading.{Reading}
@@ -21,6 +21,7 @@ use Rattle.transfer.specs.declared.read.Reading.{Reading}
 unfoldable pub taskThen : Record → List Task → List Task
 taskThen (TaskRecord k) ks = k ∷ ks
 taskThen (ComponentRecord h) ks = []
+taskThen (PairRecord p) ks = []
 taskThen (EndRecord count) ks = []
 taskThen (NoRecord n) ks = []
 
@@ -37,6 +38,7 @@ withHead h ks = record { number = h .number; period = h .period; capacity = h .c
 unfoldable pub componentFrom : List ℕ → Record → Component
 componentFrom s (ComponentRecord h) = withHead h (tasksIn most-tasks (drop (sizeOf (ComponentRecord h)) s))
 componentFrom s (TaskRecord k) = refused
+componentFrom s (PairRecord p) = refused
 componentFrom s (EndRecord count) = refused
 componentFrom s (NoRecord n) = refused
 

@@ -1,4 +1,5 @@
--- The two round trips, stated over what the operations answer (docs/RULES.md, 10 and 11): `reading` is what read_component answers, `put` and `close` are what write_component and write_end leave and answer.
+-- The two round trips, stated over what the operations answer (docs/RULES.md, 10 and 11): `reading` and `pairReading` are what read_component and
+-- read_pair answer, `put`, `putPair` and `close` are what write_component, write_pair and write_end leave and answer.
 use Prim.Native.Nat.{ℕ, zero, suc, _+_, _≤_, _<_}
 use mathlib.Core.List.{List, [], _∷_, _++_}
 use mathlib.Core.Path.{_≡_}
@@ -8,31 +9,44 @@ use Rattle.budget.specs.Component.{Same, rangeRefusal, refused, withTasks}
 use Rattle.budget.specs.Limits.{most-tasks}
 use Rattle.budget.specs.Refusal as refusal
 use Rattle.budget.specs.Task.{tasksOf}
-use Rattle.sheet.specs.Check.{check, most-bytes, most-components}
+use Rattle.record.specs.declared.layout.Pair.{Pair}
 use Rattle.record.specs.Field.{Bytes}
-use Rattle.record.specs.Layout.{endBytes}
+use Rattle.record.specs.Layout.{pairBytes, endBytes}
+use Rattle.sheet.specs.Check.{check, most-bytes, most-components, pairsOf}
+use Rattle.sheet.specs.Pairs.{Nested}
 use Rattle.sheet.specs.Part.{partOf}
+use Rattle.sheet.specs.Register.{Entry}
+use Rattle.transfer.specs.Pairing.{noPair, pairReading, pairWritingRefusal}
 use Rattle.transfer.specs.Reading.{reading}
 use Rattle.transfer.specs.Writing.{componentBytes, writingRefusal, endRefusal, written, buffered}
 
--- the bytes of components one behind the other, and of the sheet that the right end record closes
+-- the bytes of components one behind the other, of pairs, and of the sheet that the right end record closes
 unfoldable pub componentsBytes : List Component → List ℕ
 componentsBytes [] = []
 componentsBytes (c ∷ cs) = componentBytes c ++ componentsBytes cs
 
-unfoldable pub sheetBytes : List Component → List ℕ
-sheetBytes cs = componentsBytes cs ++ endBytes (length cs)
+unfoldable pub pairsBytes : List Pair → List ℕ
+pairsBytes [] = []
+pairsBytes (p ∷ ps) = pairBytes p ++ pairsBytes ps
+
+unfoldable pub sheetBytes : List Component → List Pair → List ℕ
+sheetBytes cs ps = componentsBytes cs ++ (pairsBytes ps ++ endBytes (length cs))
 
 -- a buffer that is being written, and the place answered last
 pub record Page : Type 0 where
   pub buffer : List ℕ
   pub place : ℕ
 
--- one component written at the page's place, and the end record
+-- one component written at the page's place, one pair, and the end record
 unfoldable pub put : Page → Component → Page
 put p c =
     let n = writingRefusal (length (p .buffer)) (p .place) c in
     record { buffer = buffered n (p .buffer) (p .place) (componentBytes c); place = written n (p .place) (componentBytes c) .place }
+
+unfoldable pub putPair : Page → Pair → Page
+putPair p pair =
+    let n = pairWritingRefusal (length (p .buffer)) (p .place) pair in
+    record { buffer = buffered n (p .buffer) (p .place) (pairBytes pair); place = written n (p .place) (pairBytes pair) .place }
 
 unfoldable pub close : Page → ℕ → Page
 close p count =
@@ -43,20 +57,29 @@ unfoldable pub putAll : Page → List Component → Page
 putAll p [] = p
 putAll p (c ∷ cs) = putAll (put p c) cs
 
--- components written one after the other from a buffer's beginning on, closed by the right end record
-unfoldable pub writeAll : List ℕ → List Component → Page
-writeAll buffer cs = close (putAll (record { buffer = buffer; place = 0 }) cs) (length cs)
+unfoldable pub putPairs : Page → List Pair → Page
+putPairs p [] = p
+putPairs p (pair ∷ ps) = putPairs (putPair p pair) ps
 
--- n components read from place k on
+-- components and then pairs written one after the other from a buffer's beginning on, closed by the right end record
+unfoldable pub writeAll : List ℕ → List Component → List Pair → Page
+writeAll buffer cs ps = close (putPairs (putAll (record { buffer = buffer; place = 0 }) cs) ps) (length cs)
+
+-- n components read from place k on, and n pairs
 unfoldable pub readings : List ℕ → ℕ → ℕ → List Component
 readings s k zero = []
 readings s k (suc n) = reading s k .component ∷ readings s (suc k) n
 
--- an accepted sheet, each of its components read and all written one after the other into a buffer, stands there byte for byte; the buffer is as before behind it
+unfoldable pub pairReadings : List ℕ → ℕ → ℕ → List Pair
+pairReadings s k zero = []
+pairReadings s k (suc n) = pairReading s k .pair ∷ pairReadings s (suc k) n
+
+-- an accepted sheet, each of its components and then of its pairs read and all written one after the other into a buffer, stands there byte for
+-- byte; the buffer is as before behind it
 abbrev pub SameBytes : Type 0
 SameBytes =
     (s : List ℕ) → Bytes s → check s .refusal ≡ refusal.none → (buffer : List ℕ) → length s ≤ length buffer
-    → writeAll buffer (readings s 0 (check s .count)) ≡ record { buffer = s ++ drop (length s) buffer; place = length s }
+    → writeAll buffer (readings s 0 (check s .count)) (pairReadings s 0 (length (pairsOf s))) ≡ record { buffer = s ++ drop (length s) buffer; place = length s }
 
 -- a part that is handed back is the bytes of the component that is read at its place
 abbrev pub PartsRead : Type 0
@@ -74,21 +97,29 @@ abbrev pub Rising : ℕ → List Component → Type 0
 Rising lowest [] = Unit {0}
 Rising lowest (c ∷ cs) = (lowest ≤ c .number) × Sound c × Rising (c .number + 1) cs
 
+-- what a pair is judged against, of components that are not in a sheet yet
+unfoldable pub entriesOf : List Component → List Entry
+entriesOf [] = []
+entriesOf (c ∷ cs) = record { number = c .number; tasks = length (tasksOf (c .table)) } ∷ entriesOf cs
+
 -- a component as it is returned: its task places are zero from the count on (RULES 2)
 abbrev pub returned : Component → Component
 returned c = withTasks c (tasksOf (c .table))
 
--- a sheet that is accepted and read back as these components
-pub record ReadBack (s : List ℕ) (cs : List Component) : Type 0 where
+-- a sheet that is accepted and read back as these components and pairs
+pub record ReadBack (s : List ℕ) (cs : List Component) (ps : List Pair) : Type 0 where
   pub accepted : check s ≡ record { refusal = refusal.none; place = 0; count = length cs }
   pub read : (k : ℕ) → k < length cs
       → reading s k ≡ record { refusal = refusal.none; place = 0; component = returned (getD cs k refused) }
   pub same : (k : ℕ) → k < length cs → Same (reading s k .component) (getD cs k refused)
+  pub paired : (k : ℕ) → k < length ps → pairReading s k ≡ record { refusal = refusal.none; place = 0; pair = getD ps k noPair }
+  pub no-more : pairReading s (length ps) ≡ record { refusal = refusal.place; place = 0; pair = noPair }
 
--- valid components whose numbers rise, as many as a sheet can hold, written and closed by the end record with their count, are read back as they were
+-- valid components whose numbers rise, as many as a sheet can hold, and pairs of them that the rules take, written and closed by the end record
+-- with the count of components, are read back as they were
 abbrev pub SameComponents : Type 0
 SameComponents =
-    (cs : List Component) → Rising 0 cs → length cs ≤ most-components → length (sheetBytes cs) ≤ most-bytes
-    → (buffer : List ℕ) → length (sheetBytes cs) ≤ length buffer
-    → (writeAll buffer cs ≡ record { buffer = sheetBytes cs ++ drop (length (sheetBytes cs)) buffer; place = length (sheetBytes cs) })
-    × ReadBack (take (writeAll buffer cs .place) (writeAll buffer cs .buffer)) cs
+    (cs : List Component) (ps : List Pair) → Rising 0 cs → Nested (entriesOf cs) [] ps → length cs ≤ most-components → length (sheetBytes cs ps) ≤ most-bytes
+    → (buffer : List ℕ) → length (sheetBytes cs ps) ≤ length buffer
+    → (writeAll buffer cs ps ≡ record { buffer = sheetBytes cs ps ++ drop (length (sheetBytes cs ps)) buffer; place = length (sheetBytes cs ps) })
+    × ReadBack (take (writeAll buffer cs ps .place) (writeAll buffer cs ps .buffer)) cs ps

@@ -12,10 +12,13 @@ use Rattle.run.specs.Order.{waits}
 use Rattle.run.specs.Run.{Rule, leftBy}
 use Rattle.trace.specs.Units.{units}
 
+-- a unit that is not idle goes to a job that waits
+abbrev pub ServedWaits : List Job → Rule → Type 0
+ServedWaits js rule =
+    (n : ℕ) (left : List ℕ) → rule n left < length js → waits n (getD js (rule n left) noJob) (getD left (rule n left) 0) ≡ true
+
 pub record UrgentFirst (urgent : Job → Bool) (js : List Job) (rule : Rule) : Type 0 where
-  -- a unit that is not idle goes to a job that waits
-  pub waiting : (n : ℕ) (left : List ℕ) → rule n left < length js
-      → waits n (getD js (rule n left) noJob) (getD left (rule n left) 0) ≡ true
+  pub waiting : ServedWaits js rule
   -- while an urgent job waits, the unit is not idle and goes to an urgent one
   pub busy : (n : ℕ) (left : List ℕ) (q : ℕ) → q < length js → urgent (getD js q noJob) ≡ true
       → waits n (getD js q noJob) (getD left q 0) ≡ true → rule n left < length js

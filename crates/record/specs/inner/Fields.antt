@@ -7,7 +7,7 @@ use Rattle.budget.specs.declared.component.Capacity.the-variants.{Stated, Asked
 use Rattle.budget.specs.Task.{T, C, D}
 use Rattle.record.specs.declared.layout.Head.{Head}
 use Rattle.record.specs.declared.layout.Record.{Record}
-use Rattle.record.specs.declared.layout.Record.the-variants.{ComponentRecord, TaskRecord, EndRecord, NoRecord}
+use Rattle.record.specs.declared.layout.Record.the-variants.{ComponentRecord, TaskRecord, PairRecord, EndRecord, NoRecord}
 use Rattle.record.specs.Row.{rowLength}
 
 abbrev pub headKind : Capacity → ℕ
@@ -17,6 +17,7 @@ headKind Asked = 4
 abbrev pub kindOf : Record → ℕ
 kindOf (ComponentRecord h) = headKind (h .capacity)
 kindOf (TaskRecord k) = 2
+kindOf (PairRecord p) = 6
 kindOf (EndRecord n) = 3
 kindOf (NoRecord n) = 0
 
@@ -27,6 +28,7 @@ headFields h Asked = 0 ∷ 0 ∷ h .number ∷ h .period .0 ∷ h .deadline .0 �
 abbrev pub fieldsOf : Record → List ℕ
 fieldsOf (ComponentRecord h) = headFields h (h .capacity)
 fieldsOf (TaskRecord k) = 0 ∷ 0 ∷ T k ∷ C k ∷ D k ∷ 0 ∷ 0 ∷ 0 ∷ []
+fieldsOf (PairRecord p) = 0 ∷ 0 ∷ p .child ∷ p .parent ∷ 0 ∷ 0 ∷ 0 ∷ 0 ∷ []
 fieldsOf (EndRecord n) = 0 ∷ 0 ∷ n ∷ 0 ∷ 0 ∷ 0 ∷ 0 ∷ 0 ∷ []
 fieldsOf (NoRecord n) = 0 ∷ 0 ∷ 0 ∷ 0 ∷ 0 ∷ 0 ∷ 0 ∷ 0 ∷ []
 

@@ -4,9 +4,6 @@ use mathlib.Core.List.{List}
 use mathlib.Core.Path.{_≡_}
 use lib.ListN.{length}
 use lib.Seq.{sets}
-use Rattle.budget.specs.Refusal as refusal
-use Rattle.sheet.specs.Check.{check}
-use Rattle.sheet.specs.Contents.{contentsOf}
 use Rattle.report.specs.Listing.{componentLines}
 
 -- these bytes, a line's at most, were put into a page from a place on, and the place behind them is answered
@@ -14,12 +11,6 @@ pub record Paged (before : List ℕ) (at : ℕ) (bytes after : List ℕ) (r : �
   pub place : r ≡ at + length bytes
   pub page : after ≡ sets before at bytes
   pub short : length bytes ≤ 64
-
--- the sheet is taken, and these are its edges and the count of its components
-pub record Known (s xs : List ℕ) (n : ℕ) : Type 0 where
-  pub taken : check s .refusal ≡ refusal.none
-  pub edges : xs ≡ contentsOf s .edges
-  pub count : n ≡ check s .count
 
 -- the page after the lines of a sheet's first k components
 pub record Lines (s page : List ℕ) (k : ℕ) (after : List ℕ) (at : ℕ) : Type 0 where

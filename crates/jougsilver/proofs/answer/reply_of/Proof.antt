@@ -1,43 +1,21 @@
--- Each field is what its own function ensures.
-use Prim.Native.Nat.{ℕ}
-use mathlib.Core.Path.{_≡_, ap, _∙_}
-use mir.Facts.{toZ-ofZ}
-use mir.Syntax.{w32}
-use Rattle.budget.specs.declared.quantity.Time.{Time}
-use Rattle.budget.specs.declared.quantity.Units.{Units}
-use Rattle.judge.specs.Judged.{codeOf, instantOf}
-use Rattle.judge.specs.Signed.{signedBits}
-use Rattle.jougsilver.specs.Answer.{replyOf}
-use Rattle.record.specs.declared.reply.Reply.{Reply}
+-- Each arm is its clause of the definition.
 use borrow.Author.Needs.{needs}
+use Rattle.jougsilver.specs.Answer.{replyOf}
 use Rattle.jougsilver.proofs.answer.reply_of.Statement.{statement}
 use Rattle.jougsilver.proofs.answer.reply_of.Tie as tie
 
--- replies are the same where their fields are
-fields : (n : ℕ) {code code' : ℕ} {u u' : Units} {i i' : Time} {m m' : ℕ} {t t' : Time} → code ≡ code' → u ≡ u' → i ≡ i' → m ≡ m' → t ≡ t'
-    → _≡_ {A = Reply} (record { number = n; code = code; capacity = u; instant = i; margin = m; stands = t }) (record { number = n; code = code'; capacity = u'; instant = i'; margin = m'; stands = t' })
-fields n p q r s t = cc
+enum-told : tie.Need-enum-told
+enum-told c = search needs
 
 returns : tie.Need-returns
 unfolding replyOf
-returns c =
-    let v = c .before .before .before .before .before .before .verdict-in .ensures in
-    fields (c .before .before .before .before .before .before .before .args .number)
-    (c .before .before .before .before .before .code-of .ensures ∙ ap codeOf v)
-    (ap (λ (x : ℕ). record { 0 = x }) (c .before .before .before .before .capacity-in .ensures))
-    (ap (λ (x : ℕ). record { 0 = x }) (c .before .before .before .instant-of .ensures ∙ ap instantOf v))
-    (c .before .twos-complement .ensures ∙ ap signedBits (toZ-ofZ {w = w32} (record { sfits = c .before .before .margin-of .ok }) ∙ c .before .before .margin-of .ensures))
-    (ap (λ (x : ℕ). record { 0 = x }) (c .margin-instant-of .ensures))
+returns c = rw (c .before .enum-told .given .1) (c .waiting-reply .ensures)
+
+returns-2 : tie.Need-returns-2
+unfolding replyOf
+returns-2 c = rw (c .before .before .outcome .given .1) (c .judged-reply .ensures)
 
 pub reply-of-spec : {M : Type 1} → statement M
 reply-of-spec =
     tie.close
-    (tie.spec
-    (λ c κs. search needs)
-    (λ c κs. search needs)
-    (λ c κs. search needs)
-    (λ c κs. search needs)
-    (λ c κs. search needs)
-    (λ c κs. search needs)
-    (λ c κs. search needs)
-    returns)
+    (tie.spec enum-told (λ c κs. search needs) (λ c. search needs) (λ c κs. search needs) returns returns-2)

@@ -1,6 +1,6 @@
 -- Each record is the definition's, at the comparisons that led there.
 use mathlib.Core.Path.{ap}
-use Rattle.record.specs.declared.layout.Record.the-variants.{ComponentRecord, TaskRecord, EndRecord}
+use Rattle.record.specs.declared.layout.Record.the-variants.{ComponentRecord, TaskRecord, PairRecord, EndRecord}
 use Rattle.budget.proofs.Tests.{tests}
 use Rattle.record.specs.Layout.{rowOf, recordWith}
 use borrow.Author.Needs.{needs}
@@ -19,6 +19,10 @@ asked-of-requires : tie.Need-asked-of-requires
 unfolding rowOf
 asked-of-requires c κs = rw (c .match .keys4) at (c .before .pre 2)
 
+pair-of-requires : tie.Need-pair-of-requires
+unfolding rowOf
+pair-of-requires c κs = (rw (c .match .keys5) at (c .before .pre 2), rw (c .match .keys5) at (c .before .pre 3))
+
 returns : tie.Need-returns
 unfolding recordWith
 returns c = rw (c .before .match .keys1) (ap ComponentRecord (c .stated-of .ensures))
@@ -35,6 +39,10 @@ returns-4 : tie.Need-returns-4
 unfolding recordWith
 returns-4 c = rw (c .before .match .keys4) (ap ComponentRecord (c .asked-of .ensures))
 
+returns-5 : tie.Need-returns-5
+unfolding recordWith
+returns-5 c = rw (c .before .match .keys5) (ap PairRecord (c .pair-of .ensures))
+
 pub record-with-spec : {M : Type 1} → statement M
 unfolding recordWith
 record-with-spec =
@@ -45,8 +53,10 @@ record-with-spec =
     (λ c. search needs)
     number-requires
     asked-of-requires
+    pair-of-requires
     returns
     returns-2
     returns-3
     returns-4
+    returns-5
     (λ c. search tests))

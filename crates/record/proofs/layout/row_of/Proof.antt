@@ -20,6 +20,10 @@ returns-4 : tie.Need-returns-4
 unfolding rowOf
 returns-4 c = rw (c .match .keys4)
 
+returns-5 : tie.Need-returns-5
+unfolding rowOf
+returns-5 c = rw (c .match .keys5)
+
 pub row-of-spec : {M : Type 1} → statement M
 unfolding rowOf
-row-of-spec = tie.close (tie.spec returns returns-2 returns-3 returns-4 (λ c. search tests))
+row-of-spec = tie.close (tie.spec returns returns-2 returns-3 returns-4 returns-5 (λ c. search tests))

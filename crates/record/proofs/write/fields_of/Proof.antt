@@ -10,7 +10,10 @@ returns-2 : tie.Need-returns-2
 returns-2 c = rw (c .before .record2 .given .1)
 
 returns-3 : tie.Need-returns-3
-returns-3 c = rw (c .before .record3 .given .1)
+returns-3 c = rw (c .before .before .before .record3 .given .1)
+
+returns-4 : tie.Need-returns-4
+returns-4 c = rw (c .before .record4 .given .1)
 
 pub fields-of-spec : {M : Type 1} → statement M
 fields-of-spec =
@@ -22,7 +25,11 @@ fields-of-spec =
     (λ c. search needs)
     (λ c. search needs)
     (λ c. search needs)
+    (λ c. search needs)
+    (λ c. search needs)
+    (λ c. search needs)
     returns
     returns-2
     returns-3
+    returns-4
     (λ c. search needs))

@@ -1,8 +1,9 @@
 -- `report::listing::listing` meets its contract: a refused sheet has its one line, a taken one its components' and the end's.
 use borrow.Author.Needs.{needs}
 use native.Mathlib.Omega.{arith}
-use Rattle.report.specs.inner.Paged.{Known}
-use Rattle.report.proofs.Pages.{checked-is, known, known-few, refused-listing, taken-listing}
+use Rattle.tree.specs.inner.Known.{Known}
+use Rattle.tree.proofs.Pass.{checked-is, known, known-few}
+use Rattle.report.proofs.Pages.{refused-listing, taken-listing}
 use Rattle.report.proofs.listing.listing.Statement.{statement}
 use Rattle.report.proofs.listing.listing.Tie as tie
 

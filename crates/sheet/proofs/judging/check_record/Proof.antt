@@ -14,11 +14,15 @@ returns-2 c = rw (c .before .before .record2 .given .1) (c .check-standing .ensu
 
 returns-3 : tie.Need-returns-3
 unfolding recordRefusal
-returns-3 c = rw (c .before .before .record3 .given .1) (c .check-ending .ensures)
+returns-3 c = rw (c .enum-told .given .1)
 
 returns-4 : tie.Need-returns-4
 unfolding recordRefusal
-returns-4 c = rw (c .before .record4 .given .1)
+returns-4 c = rw (c .enum-told2 .given .1)
+
+returns-5 : tie.Need-returns-5
+unfolding recordRefusal
+returns-5 c = rw (c .before .record3 .given .1)
 
 pub check-record-spec : {M : Type 1} → statement M
 check-record-spec =
@@ -29,9 +33,10 @@ check-record-spec =
     (λ c. search needs)
     (λ c κs. search needs)
     (λ c. search needs)
-    (λ c κs. search needs)
+    (λ c. search needs)
     (λ c. search needs)
     returns
     returns-2
     returns-3
-    returns-4)
+    returns-4
+    returns-5)

@@ -28,6 +28,10 @@ returns-4 : tie.Need-returns-4
 unfolding componentFrom
 returns-4 c = rw (c .before .enum-told3 .given .1) (c .refused3 .ensures)
 
+returns-5 : tie.Need-returns-5
+unfolding componentFrom
+returns-5 c = rw (c .before .enum-told4 .given .1) (c .refused4 .ensures)
+
 pub component-from-spec : {M : Type 1} → statement M
 component-from-spec =
     tie.close
@@ -40,7 +44,10 @@ component-from-spec =
     (λ c κs. search needs)
     (λ c. search needs)
     (λ c κs. search needs)
+    (λ c. search needs)
+    (λ c κs. search needs)
     returns
     returns-2
     returns-3
-    returns-4)
+    returns-4
+    returns-5)

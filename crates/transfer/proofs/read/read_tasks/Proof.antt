@@ -2,7 +2,8 @@
 use native.Mathlib.Omega.{arith}
 use Rattle.transfer.specs.Reading.{taskThen}
 use borrow.Author.Needs.{needs}
-use Rattle.transfer.proofs.ReadLaws.{Taking, taking-none, taking-more, taken-short, taken, room-here}
+use Rattle.transfer.proofs.ReadLaws.{Taking, taking-none, taking-more, taken-short, taken}
+use Rattle.transfer.proofs.RecordHere.{room-here}
 use Rattle.transfer.proofs.read.read_tasks.Statement.{statement}
 use Rattle.transfer.proofs.read.read_tasks.Tie as tie
 
@@ -40,6 +41,11 @@ unfolding taskThen
 returns-3 c = let a = c .before .before .before .before .before .before .before .before .args in let l = c .before .before .before .before .before .loop in
     taken-short (a .part .now) (a .start) (l .table) (l .place) (l .left) (l .inv) (c .before .before .before .before .loop-test .taken) (c .before .before .record-of .result) (c .before .before .record-of .ensures) (λ ks. rw (c .enum-told3 .given .1))
 
+returns-4 : tie.Need-returns-4 Inv-loop μ-loop
+unfolding taskThen
+returns-4 c = let a = c .before .before .before .before .before .before .before .before .args in let l = c .before .before .before .before .before .loop in
+    taken-short (a .part .now) (a .start) (l .table) (l .place) (l .left) (l .inv) (c .before .before .before .before .loop-test .taken) (c .before .before .record-of .result) (c .before .before .record-of .ensures) (λ ks. rw (c .enum-told4 .given .1))
+
 append-requires : tie.Need-append-requires Inv-loop μ-loop
 append-requires c κs = tt
 
@@ -49,7 +55,7 @@ size-of-requires c κs = tt
 add-place : tie.Need-add-place Inv-loop μ-loop
 add-place c = let a = c .before .before .before .before .before .before .before .before .before .before .before .args in
     let l = c .before .before .before .before .before .before .before .before .loop in
-    let h = room-here (a .part .now) (a .start) (l .table) (l .place) _ _ _ (c .before .before .before .before .before .record-of .ensures) (c .before .before .before .«record» .given .1) (c .size-of .ensures) (l .inv .here) in
+    let h = room-here (a .part .now) (l .place) _ (c .before .before .before .before .before .record-of .ensures) _ _ (c .before .before .before .«record» .given .1) (c .size-of .ensures) (l .inv .here) in
     omega arith
 
 loop-again : tie.Need-loop-again Inv-loop μ-loop
@@ -58,8 +64,8 @@ loop-again c = let a = c .before .before .before .before .before .before .before
     taking-more (a .part .now) (a .start) (l .table) (l .place) _ _ _ (c .before .before .before .before .before .record-of .ensures) (c .before .before .before .«record» .given .1) (c .size-of .ensures)
     (l .left) (l .inv) (c .before .before .before .before .before .before .before .loop-test .taken) _ (c .before .append .ensures)
 
-returns-4 : tie.Need-returns-4 Inv-loop μ-loop
-returns-4 c = let a = c .before .before .before .before .args in let l = c .before .loop in
+returns-5 : tie.Need-returns-5 Inv-loop μ-loop
+returns-5 c = let a = c .before .before .before .before .args in let l = c .before .loop in
     taken (a .part .now) (a .start) (l .table) (l .place) (l .left) (l .inv) (c .loop-test .left)
 
 pub read-tasks-spec : {M : Type 1} → statement M
@@ -81,10 +87,12 @@ read-tasks-spec =
     returns-2
     (λ c. search needs)
     returns-3
+    (λ c. search needs)
+    returns-4
     append-requires
     size-of-requires
     add-place
     (λ c. omega arith)
     (λ c. omega arith)
     loop-again
-    returns-4)
+    returns-5)

@@ -1,0 +1,6 @@
+pub mod Behaviour
+pub mod Figures
+pub mod InSheet
+pub mod Service
+pub mod SheetFigure
+pub mod Tree

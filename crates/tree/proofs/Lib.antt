@@ -1,0 +1,10 @@
+pub mod OfferLaws
+pub mod WorkloadLaws
+pub mod BelowLaws
+pub mod PlaceLaws
+pub mod Pass
+pub mod NumberLaws
+pub mod WorkloadFits
+pub mod NoParentAlone
+pub mod OnlyLong
+pub mod Figures

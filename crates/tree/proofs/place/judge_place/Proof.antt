@@ -1,0 +1,18 @@
+-- Refused as the workload is, or the outcome of the workload that is found.
+use denote.Ref.{now}
+use borrow.Author.Needs.{needs}
+use Rattle.tree.proofs.PlaceLaws.{judged-refused, judged-found}
+use Rattle.tree.proofs.place.judge_place.Statement.{statement}
+use Rattle.tree.proofs.place.judge_place.Tie as tie
+
+returns : tie.Need-returns
+returns c = let a = c .before .before .before .args in judged-refused (now (a .sheet)) (a .place) _ (c .before .load-place .ensures) (c .if1 .taken)
+
+returns-2 : tie.Need-returns-2
+returns-2 c =
+    let l = c .before .before .before in
+    let a = l .before .before .args in
+    judged-found (now (a .sheet)) (a .place) _ (l .load-place .ensures) (c .before .before .if1 .left) _ (c .outcome-of .ensures)
+
+pub judge-place-spec : {M : Type 1} → statement M
+judge-place-spec = tie.close (tie.spec (λ c κs. search needs) returns (λ c κs. search needs) returns-2)

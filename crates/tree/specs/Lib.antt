@@ -1,0 +1,6 @@
+pub mod Offer
+pub mod Workload
+pub mod Outcome
+pub mod Tree
+pub mod Nested
+pub mod inner

@@ -1,0 +1,46 @@
+// Verdict and margin of a component's whole workload, or that it waits (RULES 7, 8).
+use crate::answer::Load;
+use crate::answer::Outcome;
+use crate::workload::load;
+use budget::component::Component;
+use judge::margin::margin;
+use judge::verdict::verdict;
+ghost use mathlib.Core.Path.{_≡_};
+ghost use Rattle.tree.specs.Offer.{offersIn};
+ghost use Rattle.tree.specs.Outcome.{outcomeOf};
+ghost use Rattle.tree.specs.Workload.{loadOn, pairsFrom};
+
+// The judge's answers on the component with its workload.
+pub fn outcome_of(load: Load) -> Outcome
+    ensures { λ r. ⌜ r ≡ outcomeOf load ⌝ }
+{
+    if load.waiting {
+        return Outcome::Waiting;
+    }
+    let component = load.component;
+    Outcome::Judged(verdict(component), margin(component))
+}
+
+// Judges the component that comes next: the pairs as a row of children and one of parents, the offers of those before it in four rows.
+pub fn judge_next(
+    component: Component,
+    children: &[u16],
+    parents: &[u16],
+    numbers: &[u16],
+    capacities: &[u32],
+    periods: &[u32],
+    deadlines: &[u32],
+) -> Outcome
+    ensures { λ r. ⌜ r ≡ outcomeOf (loadOn (pairsFrom (now (children .entry)) (now (parents .entry))) (offersIn (now (numbers .entry)) (now (capacities .entry)) (now (periods .entry)) (now (deadlines .entry))) component) ⌝ }
+{
+    let load = load(
+        component,
+        children,
+        parents,
+        numbers,
+        capacities,
+        periods,
+        deadlines,
+    );
+    outcome_of(load)
+}
