@@ -20,15 +20,15 @@
  * host's own code and not proved.
  *
  * Stack and time, measured by tests/outside/worst.c (`make measure`) and not proved. On a thread whose stack was filled with
- * one byte beforehand no call touched more than 25,319 bytes of it, and 28,503 the first call of a program, which has the C
- * library's linker resolve memcpy on the way; jougsilver_judge_all touched 21,143 and jougsilver_check 12,711, whatever the
- * sheet. JOUGSILVER_STACK is more than twice that. The longest judgement of one component known is an asked one of 64 tasks
- * with a common period of 1,048,576 and a deadline at every instant: 180 to 300 ms of processor time on a virtual machine
- * (Intel Xeon, x86-64, 2.5 GHz); stated instead of asked, 130 to 185 ms. To judge a parent, jougsilver_judge judges all that
- * lives inside it first: the top of a chain of 256 components at the large end took 3.6 s, and jougsilver_judge_all, which
- * judges each component of a sheet just once, 2.9 to 4.7 s for that sheet. 63 components of that longest kind, as many as a
- * sheet holds, took it 17 s. To check a full sheet of 256 components took 0.05 ms. Time grows with the common periods and the
- * number of tasks, hardly with the sheet.
+ * one byte beforehand no call on the sheets tried touched more than 25,319 bytes of it, and 28,503 the first call of a
+ * program, which has the C library's linker resolve memcpy on the way; jougsilver_judge_all touched 21,143 of it and
+ * jougsilver_check 12,711. JOUGSILVER_STACK is more than twice that. The longest judgement of one component known is an asked
+ * one of 64 tasks with a common period of 1,048,576 and a deadline at every instant: 253 to 350 ms of processor time in eight
+ * runs on a virtual machine (Intel Xeon, x86-64, 2.5 GHz); stated instead of asked, 184 to 190 ms in four. To judge a parent,
+ * jougsilver_judge judges all that lives inside it first: the top of a chain of 256 components at the large end took 3.6 to
+ * 4.9 s in four runs, and jougsilver_judge_all, which judges each component of a sheet just once, 2.9 to 5.4 s for that
+ * sheet. 63 components of that longest kind, as many as a sheet holds, took it 17 to 18 s in two. To check a full sheet of 256
+ * components took 0.05 to 0.07 ms. Time grows with the common periods and the number of tasks.
  */
 #ifndef JOUGSILVER_H
 #define JOUGSILVER_H
