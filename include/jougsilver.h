@@ -20,15 +20,16 @@
  * host's own code and not proved.
  *
  * Stack and time, measured by tests/outside/worst.c (`make measure`) and not proved. On a thread whose stack was filled with
- * one byte beforehand no call on the sheets tried touched more than 25,319 bytes of it, and 28,503 the first call of a
- * program, which has the C library's linker resolve memcpy on the way; jougsilver_judge_all touched 21,143 of it and
+ * one byte beforehand no call on the sheets tried touched more than 29,751 bytes of it, and 29,847 the first call of a
+ * program, which has the C library's linker resolve memcpy on the way; jougsilver_judge_all touched 23,095 of it and
  * jougsilver_check 12,711. JOUGSILVER_STACK is more than twice that. The longest judgement of one component known is an asked
- * one of 64 tasks with a common period of 1,048,576 and a deadline at every instant: 253 to 350 ms of processor time in eight
- * runs on a virtual machine (Intel Xeon, x86-64, 2.5 GHz); stated instead of asked, 184 to 190 ms in four. To judge a parent,
- * jougsilver_judge judges all that lives inside it first: the top of a chain of 256 components at the large end took 3.6 to
- * 4.9 s in four runs, and jougsilver_judge_all, which judges each component of a sheet just once, 2.9 to 5.4 s for that
- * sheet. 63 components of that longest kind, as many as a sheet holds, took it 17 to 18 s in two. To check a full sheet of 256
- * components took 0.05 to 0.07 ms. Time grows with the common periods and the number of tasks.
+ * one of 64 tasks with a common period of 1,048,576 and a deadline at every instant: 127 to 136 ms of processor time in five
+ * runs on a virtual machine (Intel Xeon, x86-64), and 253 to 350 ms in eight runs of an earlier version on a slower one; stated
+ * instead of asked, 89 to 118 ms in five. Tasks that are late took no longer. To judge a parent, jougsilver_judge judges all
+ * that lives inside it first: the top of a chain of 256 components at the large end took 1.3 to 1.7 s in five runs, and
+ * jougsilver_judge_all, which judges each component of a sheet just once, as long for that sheet. 63 components of that longest
+ * kind, as many as a sheet holds, took it 8.8 s in one run. To check a full sheet of 256 components took 0.05 to 0.06 ms. Time
+ * grows with the common periods and the number of tasks.
  */
 #ifndef JOUGSILVER_H
 #define JOUGSILVER_H
@@ -42,11 +43,12 @@ extern "C" {
 
 /* Below 1.0.0 a new minor version may bring new refusal numbers and new codes of a reply; take those that you don't know as
    neither accepted nor short. A patch changes no answer. 0.2.0 brought components inside components: jougsilver_judge_all,
-   code 3 and refusal 16. */
+   code 3 and refusal 16. 0.3.0 brought jobs that become ready late: a sheet's record of kind 5, a task with its lateness J,
+   which was refused with 2 before. */
 #define JOUGSILVER_VERSION_MAJOR 0
-#define JOUGSILVER_VERSION_MINOR 2
+#define JOUGSILVER_VERSION_MINOR 3
 #define JOUGSILVER_VERSION_PATCH 0
-#define JOUGSILVER_VERSION "0.2.0"
+#define JOUGSILVER_VERSION "0.3.0"
 
 /* Bytes of stack that are enough for any call, as measured. */
 #define JOUGSILVER_STACK 65536
@@ -90,7 +92,8 @@ enum {
 
 /*
  * Judges the component at `place` (0 is the first of the sheet) and writes the reply into `reply` from byte `at` on. A parent
- * is judged with its whole workload: its own tasks, and the interface of each of its children as a task (RULES 7).
+ * is judged with its whole workload: its own tasks, and the interface of each of its children as a task (RULES 7). A task
+ * that states a lateness J is judged with D - J in the place of its deadline D (RULES 4).
  *
  * Returns 0, or the refusal: that of the sheet (1 to 9, 14 or 16), then 15 (no component at that place), then 10 (common
  * period too long; never for a component that waits), then 11 (`at` is past the buffer, or fewer than 24 bytes are left from

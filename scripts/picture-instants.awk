@@ -26,10 +26,12 @@ function read_table(at,    i) {
     tasks = $at
     table = " " tasks
     for (i = 0; i < tasks; i++) {
-        T[i] = $(at + 1 + 3 * i)
-        C[i] = $(at + 2 + 3 * i)
-        D[i] = $(at + 3 + 3 * i)
-        table = table " " T[i] " " C[i] " " D[i]
+        T[i] = $(at + 1 + 4 * i)
+        C[i] = $(at + 2 + 4 * i)
+        D[i] = $(at + 3 + 4 * i)
+        J[i] = $(at + 4 + 4 * i)
+        span[i] = D[i] - J[i]
+        table = table " " T[i] " " C[i] " " D[i] " " J[i]
     }
 }
 
@@ -72,7 +74,7 @@ function slots_around(t, units,    around) {
 # The work that falls due at an instant: no fewer units than are short where it is the first short one.
 function due(t,    i, sum) {
     for (i = 0; i < tasks; i++)
-        if (t >= D[i] && (t - D[i]) % T[i] == 0) sum += C[i]
+        if (t >= span[i] && (t - span[i]) % T[i] == 0) sum += C[i]
     return sum
 }
 
@@ -89,7 +91,7 @@ function drawable(from, to) { return to - from <= wide || corners(from, to) <= m
 function corners(from, to,    i, sum) {
     sum = capacity ? 2 * (counted(to, gap, period) - counted(from, gap, period)) + 2 : 0
     for (i = 0; i < tasks; i++)
-        sum += counted(to, D[i], T[i]) - counted(from, D[i], T[i])
+        sum += counted(to, span[i], T[i]) - counted(from, span[i], T[i])
     return sum
 }
 function counted(t, begin, step) { return t < begin ? 0 : int((t - begin) / step) + 1 }
@@ -111,7 +113,7 @@ function window(from, to,    i, t, every) {
             keep_within(gap + capacity, period, from, to)
         }
         for (i = 0; i < tasks; i++)
-            keep_within(D[i], T[i], from, to)
+            keep_within(span[i], T[i], from, to)
     }
     for (i = 1; i <= count; i++) {
         print "at", kept[i]

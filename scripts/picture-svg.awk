@@ -16,7 +16,7 @@ $1 == "own" { own = $2; parent = 1 }
 $1 == "verdict" { verdict = $2 }
 $1 == "short" { short = $2 + 0 }
 $1 == "margin" { margin = $2 + 0; instant = $3 + 0 }
-$1 == "table" { tasks = $2 }
+$1 == "table" { tasks = $2; for (i = 6; i <= NF; i += 4) note_lateness($i + 0) }
 $1 == "interface" { period = $2; capacity = $3; deadline = $4 }
 $1 == "window" { w++; from[w] = $2 + 0; to[w] = $3 + 0; every[w] = $4 == "every"; count[w] = 0; window_at[NR] = w }
 $1 == "window" && instant && instant >= $2 && instant <= $3 { last_margin = w }
@@ -26,12 +26,12 @@ $1 == "at" {
     if (instant && t[w, i] == instant) { demand_there = $3 + 0; supply_there = $4 + 0 }
 }
 END {
-    height = place_windows()
+    height = place_windows() + (late ? 22 : 0)
     print "<?xml version=\"1.0\" encoding=\"UTF-8\"?>"
     printf "<svg xmlns=\"http://www.w3.org/2000/svg\" version=\"1.1\" width=\"%d\" height=\"%d\" viewBox=\"0 0 %d %d\" font-family=\"sans-serif\" font-size=\"13\" fill=\"#000000\">\n", width, height, width, height
     words()
     print "<title>" heading "</title>"
-    print "<desc>" drawn " " caption (line_words == "" ? "" : " " line_words) "</desc>"
+    print "<desc>" drawn " " caption (line_words == "" ? "" : " " line_words) (late ? " " late_words : "") "</desc>"
     metadata()
     print "<rect x=\"0\" y=\"0\" width=\"" width "\" height=\"" height "\" fill=\"#FFFFFF\"/>"
     text(24, 34, "start", heading, " font-size=\"20\" font-weight=\"bold\"")
@@ -39,8 +39,10 @@ END {
     legend()
     for (v = 1; v <= w; v++)
         draw(v)
-    text(24, height - 38, "start", caption, " font-size=\"14\"")
-    if (line_words != "") text(24, height - 16, "start", line_words, " font-size=\"14\"")
+    foot = height - (late ? 22 : 0)
+    text(24, foot - 38, "start", caption, " font-size=\"14\"")
+    if (line_words != "") text(24, foot - 16, "start", line_words, " font-size=\"14\"")
+    if (late) text(24, height - 16, "start", late_words, " font-size=\"14\"")
     print "</svg>"
 }
 
@@ -54,12 +56,14 @@ function words() {
     drawn = "Period \316\240 = " counted(period, "slot") ", capacity \316\230 = " counted(capacity, "unit")
     drawn = drawn (verdict == "none" ? " (the largest there is)" : asked ? " (asked: the smallest accepted)" : " (stated)")
     drawn = drawn ", deadline \316\224 = " counted(deadline, "slot") "."
+    late_words = "Jobs of " counted(late, "task") " may become ready late, by up to " counted(latest, "slot") ": their work counts as due at D " minus " J, not at D."
     if (!tasks) caption = "There are no tasks: demand is 0 at every instant, and there is no margin."
     else {
         caption = "At instant " grouped(instant) " demand is " counted(demand_there, "unit") " and supply " counted(supply_there, "unit") ": margin " signed(margin) "."
         if (capacity) line_words = "The straight line reads " line_read(instant) " there" (margin < 0 && line_at(instant) >= demand_there ? ", which would pass." : ".")
     }
 }
+function note_lateness(slots) { if (slots > 0) { late++; latest = most(latest, slots) } }
 function counted(n, word) { return grouped(n) " " word (n == 1 ? "" : "s") }
 function signed(n) { return n < 0 ? minus grouped(-n) : n > 0 ? "+" grouped(n) : "0" }
 function grouped(n,    s) {

@@ -329,6 +329,9 @@ check "a refusal leads back to the text's line" meets_exactly 2 "$front/range.li
 "$second" bytes <"$front/range.txt" >"$front/range.sheet"
 echo 'jougsilver: range.sheet: byte 18: refused 9 (a number outside its range)' >"$front/range.err"
 check "a refusal of bytes names the byte" meets_exactly 2 "$front/range.listing" "$front/range.err" "$top/jougsilver" range.sheet
+printf 'component 1 stated 6 2 4\ntask 8 2 8 0\nend 1\n' >"$front/lateness.txt"
+echo 'jougsilver: lateness.txt:2: refused 9 (a number outside its range): task 8 2 8 0' >"$front/lateness.err"
+check "a lateness of 0 that is stated leads back to its line" meets_exactly 2 "$front/range.listing" "$front/lateness.err" "$top/jougsilver" lateness.txt
 printf 'component 1 asked 6 4\ntask 8 2 8\n# no end\n' >"$front/endless.txt"
 printf 'refused 1 30\n' >"$front/endless.listing"
 check "a missing end leads back to the last record" meets 2 "$front/endless.listing" '^jougsilver: endless.txt:2: refused 1 (.*): after task 8 2 8$' "$top/jougsilver" endless.txt
@@ -355,6 +358,7 @@ check "a second pair for a child" refused_pair 16 40 4 'pair 1 2' "${two[@]}" 'p
 check "a pair before its parent's component" refused_pair 16 18 2 'pair 1 2' "${two[0]}" 'pair 1 2' "${two[1]}" 'end 2'
 check "a component after a pair" refused_pair 16 40 4 'component 3 asked 6 4' "${two[@]}" 'pair 1 2' 'component 3 asked 6 4' 'end 3'
 check "a task after a pair, out of range as it may be" refused_pair 16 40 4 'task 8 9 7' "${two[@]}" 'pair 1 2' 'task 8 9 7' 'end 2'
+check "a task with its lateness after a pair" refused_pair 16 40 4 'task 8 2 8 1' "${two[@]}" 'pair 1 2' 'task 8 2 8 1' 'end 2'
 check "an end that counts the pairs" refused_pair 8 40 4 'end 3' "${two[@]}" 'pair 1 2' 'end 3'
 mapfile -t full < <(printf 'component 1 stated 6 2 4\ncomponent 2 asked 6 4\n' && for _ in $(seq 1 64); do echo 'task 8 1 8'; done)
 # 18 + 14 + 64 · 16 bytes before the pair
@@ -402,10 +406,10 @@ wrong_lines() { # NAME
 $1: wrong.txt:2: \`component 1 stated 6 2\`: stated needs Π Θ Δ: \`component NUMBER stated Π Θ Δ\`
 $1: wrong.txt:3: \`task 8 +2 8 # a sign\`: C is \`+2\`, which is not a number of digits alone
 $1: wrong.txt:4: \`task 006 2 8\`: T is \`006\`, which has a zero in front
-$1: wrong.txt:5: \`task 8 2\`: task needs T C D: \`task T C D\`
+$1: wrong.txt:5: \`task 8 2\`: a task is \`task T C D\` or \`task T C D J\`
 $1: wrong.txt:6: \`component 2 given 6 4\`: a component is \`component NUMBER stated Π Θ Δ\` or \`component NUMBER asked Π Δ\`
 $1: wrong.txt:7: \`end 65536\`: COUNT is \`65536\`, which is above 65535, the most that its 2 bytes hold
-$1: wrong.txt:8: \`tusk 8 2 8\`: no record begins with \`tusk\`; a line is \`component NUMBER stated Π Θ Δ\` or \`component NUMBER asked Π Δ\` or \`task T C D\` or \`pair CHILD PARENT\` or \`end COUNT\`
+$1: wrong.txt:8: \`tusk 8 2 8\`: no record begins with \`tusk\`; a line is \`component NUMBER stated Π Θ Δ\` or \`component NUMBER asked Π Δ\` or \`task T C D\` or \`task T C D J\` or \`pair CHILD PARENT\` or \`end COUNT\`
 $1: wrong.txt:9: \`pair 1\`: pair needs CHILD PARENT: \`pair CHILD PARENT\`
 $1: wrong.txt:10: \`pair 1 -2\`: PARENT is \`-2\`, which is not a number of digits alone
 $1: wrong.txt:11: \`pair 70000 2\`: CHILD is \`70000\`, which is above 65535, the most that its 2 bytes hold
@@ -421,7 +425,7 @@ from_input() { "$top/sheet" <wrong.txt; }
 check "./sheet names the wrong lines of standard input" meets_exactly 3 - "$front/wrong.err" from_input
 for _ in $(seq 1 23); do echo task; done >"$front/many.txt"
 check "twenty wrong lines are named, and then how many more" meets 3 - '^sheet: many.txt: 3 more wrong lines$' "$top/sheet" many.txt
-check "of 23 wrong lines just 20 are named" [ "$(grep -c '^sheet: many.txt:[0-9]*: `task`: task needs T C D: `task T C D`$' "$front/err")" -eq 20 ]
+check "of 23 wrong lines just 20 are named" [ "$(grep -c '^sheet: many.txt:[0-9]*: `task`: a task is `task T C D` or `task T C D J`$' "$front/err")" -eq 20 ]
 printf '# nothing\n\n' >"$front/nothing.txt"
 check "a text without a record is an error" meets 3 - '^sheet: nothing.txt: no line has a record' "$top/sheet" nothing.txt
 check "a sheet's bytes are no text" meets 3 - '^sheet: five.sheet: .*it is not a text' "$top/sheet" five.sheet
@@ -429,12 +433,12 @@ printf '\357\273\277# a mark\r\n\r\n\t# indented\r\ncomponent\t4  asked 6\v4 # w
 "$second" bytes <"$front/never.txt" >"$front/never.sheet"
 check "a byte-order mark, white space and comments are taken" meets 0 "$front/never.sheet" '' "$top/sheet" loose.txt
 
-# ---- what the pages show is so: the listings of the samples, and the bytes of the rules' nested components
+# ---- what the pages show is so: the listings of the samples, and the bytes of the rules' nested components and of their late task
 page_listing() { # NAME
     awk -v command="examples/sheets/$1." '/^```/ { on = 0 } on { print } $1 == "$" && $2 == "./jougsilver" && index($3, command) == 1 { on = 1 }' \
         examples/sheets/README.md >"$front/page" && "$second" list <"$samples/$1.sheet" >"$front/listed" && same "$front/listed" "$front/page"
 }
-for name in press packaging waiting; do check "examples/sheets/README.md has the listing of $name" page_listing "$name"; done
+for name in press tick packaging waiting; do check "examples/sheets/README.md has the listing of $name" page_listing "$name"; done
 # The bytes, as a call has them, of the block of bytes behind the line that begins so.
 rules_bytes() { # WORDS
     awk -v words="$1" 'index($0, words) == 1 { on = 1; next } on && /^    / { gsub(/ /, ""); row = row $0; next } on && row { exit } END { print row }' docs/RULES.md
@@ -449,3 +453,12 @@ rules_nested() {
     same "$front/listed" "$front/page"
 }
 check "docs/RULES.md has the bytes of nested components and of their reply" rules_nested
+rules_late() {
+    local row
+    row=$(rules_bytes 'Example, the same component with the task (8, 2, 8, 1)')
+    # J is the last field of the task, at byte 34
+    { printf '%s\n' "tree $row 0" "sheet ${row:0:68}00${row:70}" "sheet ${row:0:68}07${row:70}" | "$second" answer; } >"$front/page"
+    printf '%s\n' 'ok 7 short 7 2 -1 7' 'refused 9 18 0' 'refused 9 18 0' >"$front/listed"
+    same "$front/listed" "$front/page"
+}
+check "docs/RULES.md has the bytes of a task that states its lateness" rules_late

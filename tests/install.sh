@@ -77,7 +77,7 @@ outside_fresh() {
     for sheet in "$work"/sheets/*; do outside_verdicts "$sheet" || return; done
 }
 stack_is_enough() { run_abroad ./worst; }
-measured() { make measure RUNS=1 >"$work/made" && [ "$(grep -c '^\(judge\|judge_all\|check\), .* bytes of stack .* ms$' "$work/made")" -eq 10 ]; }
+measured() { make measure RUNS=1 >"$work/made" && [ "$(grep -c '^\(judge\|judge_all\|check\), .* bytes of stack .* ms$' "$work/made")" -eq 11 ]; }
 
 # ---- the installed commands, from another folder and with no rt on the PATH
 installed_command() { # NAME WORD...
@@ -210,4 +210,5 @@ check "jougsilver.1 has the exit statuses" page_has_statuses
 check "header, manual and commands have the same words for an answer" codes_agree
 check "jougsilver.1 has an example that is listed as it says" page_example press.txt
 check "jougsilver.1 has an example of nested components that is listed as it says" page_example nested.txt
+check "jougsilver.1 has an example of late jobs that is listed as it says" page_example tick.txt
 check "make uninstall takes everything away" uninstalled

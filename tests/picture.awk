@@ -8,6 +8,7 @@ BEGIN {
     first = word[2] == "asked" ? 3 : 4
     for (i = first + 2; i <= many; i++) table = table " " word[i]
     tasks = word[first + 2]
+    for (i = first + 6; i <= many; i += 4) if (word[i] > 0) { late++; if (word[i] > latest) latest = word[i] + 0 }
     period = word[first]
     deadline = word[first + 1]
     interface = period " " capacity " " deadline
@@ -78,6 +79,7 @@ END {
         of_own = own > 0 ? own " task" (own == 1 ? "" : "s") " and " : ""
         if (!labels["demand: the units due by then of " of_own (tasks - own == 1 ? "1 child" : tasks - own " children")]) wrong("no label for the workload")
     }
+    expect(labels[late_words()] + 0, late > 0)
     expect(shorts + 0, short != "")
     expect(margins + 0, margin != "none")
     if (short != "" && !labels["first short instant: " short]) wrong("no label for the first short instant")
@@ -99,6 +101,9 @@ function caption(    v, d, s) {
     d = at(demand, v, of_margin[2])
     s = at(supply, v, of_margin[2])
     return "At instant " of_margin[2] " demand is " d (d == 1 ? " unit" : " units") " and supply " s (s == 1 ? " unit" : " units") ": margin " (of_margin[1] > 0 ? "+" : "") of_margin[1] "."
+}
+function late_words() {
+    return "Jobs of " late (late == 1 ? " task" : " tasks") " may become ready late by up to " latest (latest == 1 ? " slot" : " slots") ": their work counts as due at D - J not at D."
 }
 # An end of the straight line lies on it, and where it enters or leaves the box; pixels are given to two places.
 function on_line(v, x, y, leaves,    t, near) {

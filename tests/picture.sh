@@ -11,8 +11,8 @@ component_of() { # SHEET NUMBER
         $2 == "accepted" { capacity[$1] = $3 }
         $1 == "component" { mine = $2 == number; of[$2] = $3 == "stated" ? $4 " " $6 : $4 " " $5 }
         mine && $1 == "component" { begin = $2 " " ($3 == "stated" ? "stated " $5 " " : "asked ") of[$2] }
-        mine && $1 == "task" { add($2 " " $3 " " $4) }
-        $1 == "pair" && $3 == number && capacity[$2] > 0 { split(of[$2], span, " "); add(span[1] " " capacity[$2] " " span[2]) }
+        mine && $1 == "task" { add($2 " " $3 " " $4 " " $5 + 0) }
+        $1 == "pair" && $3 == number && capacity[$2] > 0 { split(of[$2], span, " "); add(span[1] " " capacity[$2] " " span[2] " 0") }
         function add(task) { tasks++; table = table " " task }
         END { print begin " " tasks + 0 table }'
 }

@@ -52,7 +52,7 @@ pub fn calls(row: &Row, kind: &str) -> String {
     let capacity = if kind == "capacity" { "asked".to_string() } else { format!("stated {}", row.capacity) };
     let mut call = format!("{kind} 1 {capacity} {} {} {}", row.period, row.deadline, row.tasks.len());
     for (period, work, deadline) in &row.tasks {
-        write!(call, " {period} {work} {deadline}").expect("a string takes every write");
+        write!(call, " {period} {work} {deadline} 0").expect("a string takes every write");
     }
     call.push('\n');
     // the plain search for a capacity goes through the instants once for each capacity that it tries
@@ -67,11 +67,7 @@ pub fn walk() -> String {
     };
     let trace: String = (0..65_536).map(|slot| if slot % 3 == 0 { "00" } else { "01" }).collect();
     // 8 tasks of period 512, deadline 512 and work 40, each released every 512 slots
-    let tasks = " 512 40 512".repeat(8);
-    format!(
-        "walk 8{tasks} {} {} {} {trace} {jobs}\n",
-        column(&|job| job % 8),
-        column(&|job| job / 8 * 512),
-        column(&|job| job % 40 + 1),
-    )
+    let tasks = " 512 40 512 0".repeat(8);
+    let releases = column(&|job| job / 8 * 512);
+    format!("walk 8{tasks} {} {releases} {releases} {} {trace} {jobs}\n", column(&|job| job % 8), column(&|job| job % 40 + 1))
 }

@@ -29,8 +29,17 @@ impl<'a> Words<'a> {
     fn number(&mut self, limit: u64) -> Parsed<u64> {
         let word = self.word()?;
         match word.parse::<u64>() {
-            Ok(value) if value <= limit => Ok(value),
+            Ok(value) if value <= limit && !word.starts_with('+') => Ok(value),
             _ => Err(format!("`{word}` is not a number up to {limit}")),
+        }
+    }
+
+    /// A slot that may lie before slot 0.
+    fn signed(&mut self) -> Parsed<i32> {
+        let word = self.word()?;
+        match word.parse::<i32>() {
+            Ok(value) if !word.starts_with('+') && word.starts_with('-') == (value < 0) => Ok(value),
+            _ => Err(format!("`{word}` is not a number from {} to {}", i32::MIN, i32::MAX)),
         }
     }
 
@@ -45,7 +54,7 @@ impl<'a> Words<'a> {
     }
 
     fn task(&mut self) -> Parsed<Task> {
-        Ok(Task::new(self.long()?, self.long()?, self.long()?))
+        Ok(Task::new(self.long()?, self.long()?, self.long()?).late(self.long()?))
     }
 
     fn table(&mut self) -> Parsed<Table> {
@@ -73,9 +82,13 @@ impl<'a> Words<'a> {
         Ok(Pair { child: self.number(u16::MAX as u64)? as u16, parent: self.number(u16::MAX as u64)? as u16 })
     }
 
-    fn list(&mut self) -> Parsed<Vec<u32>> {
+    fn list<T>(&mut self, one: impl Fn(&mut Self) -> Parsed<T>) -> Parsed<Vec<T>> {
         let count = self.number(2_048)?;
-        (0..count).map(|_| self.long()).collect()
+        (0..count).map(|_| one(self)).collect()
+    }
+
+    fn jobs(&mut self) -> Parsed<Jobs> {
+        Ok(Jobs { tasks: self.list(Self::long)?, releases: self.list(Self::signed)?, ready: self.list(Self::long)?, works: self.list(Self::long)? })
     }
 
     fn row(&mut self) -> Parsed<Vec<u8>> {
@@ -110,9 +123,27 @@ pub fn row_text(row: &[u8]) -> String {
     row.iter().map(|byte| format!("{byte:02x}")).collect()
 }
 
+pub fn task_text(task: &Task) -> String {
+    format!("{} {} {} {}", task.period, task.work, task.deadline, task.lateness)
+}
+
 pub fn table_text(table: &Table) -> String {
-    let tasks: String = table.tasks.iter().map(|task| format!(" {} {} {}", task.period, task.work, task.deadline)).collect();
+    let tasks: String = table.tasks.iter().map(|task| format!(" {}", task_text(task))).collect();
     format!("{}{tasks}", table.count)
+}
+
+fn list_text<T: std::fmt::Display>(values: &[T]) -> String {
+    values.iter().fold(values.len().to_string(), |text, value| format!("{text} {value}"))
+}
+
+/// The four lists of a walk.
+pub fn jobs_text(jobs: &Jobs) -> String {
+    [list_text(&jobs.tasks), list_text(&jobs.releases), list_text(&jobs.ready), list_text(&jobs.works)].join(" ")
+}
+
+/// A walk whose work-left buffer has a number for each job.
+pub fn walk_text(table: &Table, jobs: &Jobs, trace: &[u8]) -> String {
+    format!("walk {} {} {} {}", table_text(table), jobs_text(jobs), row_text(trace), jobs.tasks.len())
 }
 
 pub fn component_text(component: &Component) -> String {
@@ -174,8 +205,7 @@ pub fn parse(line: &str) -> Parsed<Call> {
         "remove_task" => Call::RemoveTask(w.component()?, w.place()?),
         "legal" => Call::Legal(w.interface()?, w.long()?, w.row()?),
         "walk" => {
-            let table = w.table()?;
-            let jobs = Jobs { tasks: w.list()?, releases: w.list()?, works: w.list()? };
+            let (table, jobs) = (w.table()?, w.jobs()?);
             Call::Walk(table, jobs, w.row()?, w.number(2_048)?)
         }
         "verdict" => Call::Verdict(w.component()?),
@@ -348,31 +378,33 @@ mod tests {
 
     #[test]
     fn one_call_of_each_kind() {
-        holds("check_task 8 2 7", "ok");
-        holds("check_task 8 2 9", "refused 9");
+        holds("check_task 8 2 7 0", "ok");
+        holds("check_task 8 2 9 0", "refused 9");
         holds("check_table 0", "ok");
         holds("check_interface 6 2 4", "ok");
-        holds("check_component 1 asked 6 4 1 8 2 7", "ok");
+        holds("check_component 1 asked 6 4 1 8 2 7 5", "ok");
         holds("dedicated", "ok 1 1 1");
         holds("common_divisor 12 18", "ok 6");
-        holds("common_period 1 stated 1 1 1 2 4 2 4 7 3 7", "ok 28");
-        holds("common_period 1 asked 3 3 1 1048576 1 1", "refused 10 0");
-        holds("demand 2 4 2 4 7 3 7 14", "ok 12");
+        holds("common_period 1 stated 1 1 1 2 4 2 4 0 7 3 7 0", "ok 28");
+        holds("common_period 1 asked 3 3 1 1048576 1 1 0", "refused 10 0");
+        holds("demand 2 4 2 4 0 7 3 7 0 14", "ok 12");
         holds("supply 6 2 4 8", "ok 2");
         holds("supply 6 2 4 1048577", "refused 9 0");
-        holds("add_task 7 asked 6 4 0 8 2 7", "ok 7 asked 6 4 1 8 2 7 zero");
-        holds("remove_task 7 stated 2 6 4 1 8 2 7 0", "ok 7 stated 2 6 4 0 zero");
-        holds("remove_task 7 stated 2 6 4 1 8 2 7 1", "refused 15 0 stated 1 1 1 0 zero");
+        holds("add_task 7 asked 6 4 0 8 2 7 0", "ok 7 asked 6 4 1 8 2 7 0 zero");
+        holds("add_task 7 asked 6 4 0 8 2 7 5", "ok 7 asked 6 4 1 8 2 7 5 zero");
+        holds("add_task 7 asked 6 4 0 8 2 7 6", "refused 9 0 stated 1 1 1 0 zero");
+        holds("remove_task 7 stated 2 6 4 1 8 2 7 0 0", "ok 7 stated 2 6 4 0 zero");
+        holds("remove_task 7 stated 2 6 4 1 8 2 7 0 1", "refused 15 0 stated 1 1 1 0 zero");
         holds("legal 6 2 4 2 0000000000000101", "ok yes");
         holds("legal 6 2 4 6 -", "refused 9 no");
-        holds("walk 1 8 2 7 1 0 1 0 1 2 0000000000000101 1", "ok miss 7 0 1 0 1 1");
-        holds("walk 1 8 2 7 1 0 1 0 1 2 0000000000000101 2", "refused 11 none 0 0 2 77 77");
-        holds("verdict 1 stated 2 6 4 1 8 2 7", "ok short 7 2");
-        holds("verdict 1 asked 6 4 1 8 2 7", "ok accepted 3");
-        holds("margin 1 asked 6 4 1 8 2 7", "ok 1 7");
-        holds("capacity 1 asked 6 4 1 4 2 2", "ok none");
-        holds("capacity 1 stated 4 6 4 1 8 2 7", "ok 3");
-        holds("capacity 1 asked 3 3 1 1048576 1 1", "refused 10");
+        holds("walk 1 8 2 7 0 1 0 1 0 1 0 1 2 0000000000000101 1", "ok miss 7 0 1 0 1 1");
+        holds("walk 1 8 2 7 0 1 0 1 0 1 0 1 2 0000000000000101 2", "refused 11 none 0 0 2 77 77");
+        holds("verdict 1 stated 2 6 4 1 8 2 7 0", "ok short 7 2");
+        holds("verdict 1 asked 6 4 1 8 2 7 0", "ok accepted 3");
+        holds("margin 1 asked 6 4 1 8 2 7 0", "ok 1 7");
+        holds("capacity 1 asked 6 4 1 4 2 2 0", "ok none");
+        holds("capacity 1 stated 4 6 4 1 8 2 7 0", "ok 3");
+        holds("capacity 1 asked 3 3 1 1048576 1 1 0", "refused 10");
         holds("sheet -", "refused 1 0 0");
         holds("sheet 060003000000", "ok 0");
         holds("part 060003000000 0", "refused 15 0 -");
@@ -397,10 +429,10 @@ mod tests {
         holds("write_pair 2 2 1 1", "refused 16 0 a5");
         holds("write_pair 1 2 7 0", "refused 11 0 a5a5a5a5a5a5a5");
         holds(&format!("workload {row} 1"), "ok waiting");
-        holds(&format!("workload {row} 4"), "ok 6 stated 1 1 1 1 4 2 4 zero");
+        holds(&format!("workload {row} 4"), "ok 6 stated 1 1 1 1 4 2 4 0 zero");
         holds(&format!("workload {row} 5"), "refused 15 0 0 stated 1 1 1 0 zero");
         let accepted = sheet(&five.replace("8 2 7", "8 2 8"));
-        holds(&format!("workload {accepted} 1"), "ok 2 stated 1 1 1 2 4 2 4 6 2 4 zero");
+        holds(&format!("workload {accepted} 1"), "ok 2 stated 1 1 1 2 4 2 4 0 6 2 4 0 zero");
         holds(&format!("tree {accepted} 1"), "ok 2 accepted 1 0 4");
         holds(&format!("tree {row} 0"), "ok 1 short 7 2 -1 7");
         holds(&format!("tree {row} 1"), "ok 2 waiting");
@@ -415,7 +447,33 @@ mod tests {
     }
 
     #[test]
+    fn the_calls_about_lateness() {
+        holds("check_task 8 2 8 6", "ok");
+        holds("check_task 8 2 8 7", "refused 9");
+        holds("check_table 1 8 2 8 4294967295", "refused 9");
+        holds("demand 1 8 2 8 1 7", "ok 2");
+        holds("demand 1 8 2 8 1 6", "ok 0");
+        holds("walk 1 8 2 8 1 1 0 1 -1 1 0 1 2 0000000000000101 1", "ok miss 7 0 1 0 1 1");
+        holds("walk 1 8 2 8 1 1 0 1 0 1 1 1 2 0000000000000101 1", "ok none 2 0 1 0");
+        holds("walk 1 8 2 8 1 1 0 1 -2 1 0 1 2 0000000000000101 1", "refused 12 none 0 0 1 77");
+        holds("walk 1 8 2 8 1 1 0 1 -1 1 0 1 2 - 1", "ok none 0 0 1 2");
+        holds("walk 1 8 2 8 1 1 0 1 -2147483648 1 4294967295 1 2 - 1", "refused 12 none 0 0 1 77");
+        holds("verdict 1 stated 2 6 4 1 8 2 8 1", "ok short 7 2");
+        holds("margin 1 stated 2 6 4 1 8 2 8 2", "ok -2 6");
+        holds("capacity 1 asked 6 4 1 8 2 8 3", "ok 4");
+        let late = row_text(&text::bytes("component 7 asked 6 4\ntask 8 2 8 3\nend 1").unwrap());
+        holds(&format!("read {late} 0"), "ok 7 asked 6 4 1 8 2 8 3 zero");
+        holds("write 7 asked 6 4 1 8 2 8 3 34 0", &format!("ok 34 {}", &late[..68]));
+    }
+
+    #[test]
     fn what_is_no_call_is_named() {
+        for release in ["-0", "+1", "2147483648", "-2147483649", "", "-"] {
+            assert!(parse(&format!("walk 1 8 2 8 1 1 0 1 {release} 1 0 1 2 - 1")).is_err(), "{release}");
+        }
+        assert!(parse("supply +6 2 4 8").is_err());
+        assert!(parse("walk 1 8 2 8 1 1 0 1 0 1 -1 1 2 - 1").is_err());
+        assert!(parse("check_task 8 2 7").is_err());
         assert!(parse("supply 6 2 4").is_err());
         assert!(parse("supply 6 2 4 8 9").is_err());
         assert!(parse("legal 6 2 4 0 0").is_err());

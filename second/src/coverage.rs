@@ -1,10 +1,10 @@
 //! What a set of calls reaches: each refusal of each operation, each kind of answer, ties, both ends of each range, and the rules about
-//! pairs and trees.
+//! pairs and trees and about lateness.
 
 use crate::calls::{self, Call};
 use crate::numbers::{Capacity, Component, Interface, Table, Task, LIMIT, TASKS};
 use crate::tree::Tree;
-use crate::{coverage_pairs, demand, host, run, sheet, supply};
+use crate::{coverage_late, coverage_pairs, demand, host, run, sheet, supply};
 use std::collections::BTreeMap;
 
 #[derive(Default)]
@@ -44,7 +44,7 @@ const REFUSALS: [(&str, &[u16]); 26] = [
 
 /// The answers that are no refusals, by what stands in them; ties; and the ends of ranges, the last one taken and the first
 /// one refused.
-const OTHERS: [&str; 93] = [
+const OTHERS: [&str; 98] = [
     "check_task ok",
     "check_table ok",
     "check_interface ok",
@@ -110,6 +110,11 @@ const OTHERS: [&str; 93] = [
     "task: C is D + 1",
     "task: D is T",
     "task: D is T + 1",
+    "task: J is 0",
+    "task: J is 1",
+    "task: J is D - C",
+    "task: J is D - C + 1",
+    "task: J is 4294967295",
     "interface: Π is 1",
     "interface: Π is 1048576",
     "interface: Π is 1048577",
@@ -165,6 +170,7 @@ impl Seen {
         self.ends(&call);
         self.ties(&call);
         self.tree(&call);
+        coverage_late::of_call(&call).iter().for_each(|what| self.add(what));
         let at = if let Call::Host(.., at) | Call::HostCheck(.., at) | Call::HostAll(.., at) = &call { *at as usize } else { 0 };
         let answer = calls::answer(call);
         let words: Vec<&str> = answer.split(' ').collect();
@@ -235,6 +241,14 @@ impl Seen {
         self.add_if(task.work as u64 == task.deadline as u64 + 1, "task: C is D + 1");
         self.add_if(task.deadline == task.period, "task: D is T");
         self.add_if(task.deadline as u64 == task.period as u64 + 1, "task: D is T + 1");
+        if task.late(0).check().is_ok() {
+            let (lateness, largest) = (task.lateness, task.deadline - task.work);
+            self.add_if(lateness == 0, "task: J is 0");
+            self.add_if(lateness == 1 && largest >= 1, "task: J is 1");
+            self.add_if(lateness > 0 && lateness == largest, "task: J is D - C");
+            self.add_if(lateness == largest + 1, "task: J is D - C + 1");
+            self.add_if(lateness == u32::MAX, "task: J is 4294967295");
+        }
     }
 
     fn table(&mut self, table: &Table) {
@@ -275,6 +289,7 @@ impl Seen {
 
     fn sheet(&mut self, row: &[u8]) {
         coverage_pairs::of_sheet(row).iter().for_each(|what| self.add(what));
+        coverage_late::of_sheet(row).iter().for_each(|what| self.add(what));
         self.add(&format!("sheet {}", row.len()));
         match sheet::read(row) {
             Ok(sheet) => self.add(&format!("components {}", sheet.components.len())),
@@ -344,11 +359,11 @@ impl Seen {
     fn ties(&mut self, call: &Call) {
         match call {
             Call::Walk(table, jobs, row, left) if run::answer(table, jobs, row, *left).is_ok() => {
-                let (between, late) = run::ties(table, jobs, row);
-                self.add_if(between, "tie: a unit between two jobs of one deadline");
-                self.add_if(late, "tie: two tasks late at the miss");
-                let end = row.len() as u64;
-                let deadline = |job: usize| jobs.releases[job] as u64 + table.tasks[jobs.tasks[job] as usize].deadline as u64;
+                let met = run::met(table, jobs, row);
+                self.add_if(met.tie, "tie: a unit between two jobs of one deadline");
+                self.add_if(met.both_late, "tie: two tasks late at the miss");
+                let end = row.len() as i64;
+                let deadline = |job: usize| jobs.releases[job] as i64 + table.tasks[jobs.tasks[job] as usize].deadline as i64;
                 self.add_if((0..jobs.tasks.len()).any(|job| deadline(job) == end), "walk: a deadline at the trace's end");
                 self.add_if((0..jobs.tasks.len()).any(|job| deadline(job) > end), "walk: a deadline after the trace's end");
             }
@@ -377,7 +392,7 @@ impl Seen {
         let refusals = REFUSALS.iter().flat_map(|(kind, numbers)| numbers.iter().map(move |number| format!("{kind} refused {number}")));
         let mut text = String::new();
         let mut missing = 0;
-        for what in OTHERS.iter().chain(&coverage_pairs::REACHED).map(|what| what.to_string()).chain(refusals) {
+        for what in OTHERS.iter().chain(&coverage_pairs::REACHED).chain(&coverage_late::REACHED).map(|what| what.to_string()).chain(refusals) {
             let count = self.reached(&what);
             missing += (count == 0) as usize;
             text += &format!("{count:>8} {what}\n");

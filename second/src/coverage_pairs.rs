@@ -56,7 +56,7 @@ pub const REACHED: [&str; 46] = [
 ];
 
 /// The kind of the record at a place, where its head is there.
-fn kind_at(row: &[u8], at: usize) -> Option<u16> {
+pub fn kind_at(row: &[u8], at: usize) -> Option<u16> {
     (at + 4 <= row.len()).then(|| sheet::number(row, at + 2))
 }
 
@@ -78,14 +78,14 @@ pub fn of_sheet(row: &[u8]) -> Vec<String> {
     match (refusal, kind_at(row, at)) {
         (16, Some(sheet::PAIR)) => of_wrong_pair(&sheet, row, at),
         (16, Some(kind)) => {
-            let what = if kind == sheet::TASK { "task" } else { "component" };
+            let what = if [sheet::TASK, sheet::LATE].contains(&kind) { "task" } else { "component" };
             let alone = Sheet { pairs: vec![], ..sheet }.take(row, at);
             let hidden = alone.err().map(|own| format!("16 before {own} at a {what}"));
             [format!("16: a {what} behind a pair")].into_iter().chain(hidden).collect()
         }
         (1, Some(sheet::PAIR)) => vec!["1 at a cut pair".into()],
         (3, Some(sheet::PAIR)) => vec!["3 at a pair".into()],
-        (1 | 3, Some(sheet::STATED | sheet::ASKED | sheet::TASK)) if behind => {
+        (1 | 3, Some(sheet::STATED | sheet::ASKED | sheet::TASK | sheet::LATE)) if behind => {
             let cut = if refusal == 1 { " cut" } else { "" };
             vec![format!("{refusal} before 16 at a{cut} component or task")]
         }
@@ -166,6 +166,7 @@ fn chain(tree: &Tree, place: usize) -> usize {
 /// What the component at a place reaches, where it is a parent.
 pub fn of_place(tree: &Tree, place: usize) -> Vec<&'static str> {
     let children: Vec<Judged> = tree.children(place).iter().map(|&child| tree.judged(child)).collect();
+    let short_late = |child: usize| late(tree, child) && matches!(tree.judged(child), Judged::Answered(Verdict::Short(_), ..));
     let too_long = tree.components[place].common_period() == Err(10);
     let all = match tree.judged(place) {
         _ if children.is_empty() => vec![],
@@ -175,6 +176,7 @@ pub fn of_place(tree: &Tree, place: usize) -> Vec<&'static str> {
             (children.contains(&Judged::Long), "waiting: a child's common period is too long"),
             (children.contains(&Judged::Waiting), "waiting: a child waits"),
             (too_long, "waiting: and its own common period is too long"),
+            (tree.children(place).iter().any(|&child| short_late(child)), "late: task of a short child"),
         ],
         Judged::Long => vec![
             (too_long, "parent: its common period is too long"),
@@ -183,6 +185,11 @@ pub fn of_place(tree: &Tree, place: usize) -> Vec<&'static str> {
         Judged::Answered(verdict, _, margin) => of_judged(tree, place, verdict, margin),
     };
     all.into_iter().filter(|(reached, _)| *reached).map(|(_, what)| what).collect()
+}
+
+/// Whether a component has a late task of its own.
+fn late(tree: &Tree, place: usize) -> bool {
+    tree.components[place].table.tasks.iter().any(|task| task.lateness > 0)
 }
 
 /// The same of a parent with a verdict.
@@ -207,5 +214,7 @@ fn of_judged(tree: &Tree, place: usize, verdict: Verdict, margin: Margin) -> Vec
         (own.table.count > 0 && count > own.table.count, "parent: own tasks, and children that add some"),
         (count == TASKS, "parent: 64 in a judged workload"),
         (chain(tree, place) >= 4, "chain: 4 accepted, each with a capacity above 0"),
+        (verdict == Verdict::Accepted && late(tree, place), "late: own task of an accepted parent"),
+        (verdict == Verdict::Accepted && children.iter().any(|&child| late(tree, child)), "late: task of an accepted parent's child"),
     ]
 }

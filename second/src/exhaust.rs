@@ -1,12 +1,13 @@
-//! Every small call there is, as a check of the definitions by running: all traces, all components, for each component the run that
-//! shows it to be short (RULES 7), and a small sheet and a small nested one damaged in every way.
+//! Every small call there is, as a check of the definitions by running: all traces, all components, for each component the runs that
+//! show it to be short (RULES 7), and small sheets damaged in every way: a plain one, one with late tasks, a nested one.
 
-use crate::calls::{component_text, row_text, table_text};
+use crate::calls::{component_text, row_text, walk_text};
 use crate::numbers::{Capacity, Component, Interface, Table, Task};
+use crate::run::{Job, Jobs};
 use crate::{sheet, text, trace};
 
 /// Every interface up to a period.
-fn interfaces(longest: u32) -> Vec<Interface> {
+pub fn interfaces(longest: u32) -> Vec<Interface> {
     let mut all = vec![];
     for period in 1..=longest {
         for deadline in 1..=period {
@@ -16,12 +17,14 @@ fn interfaces(longest: u32) -> Vec<Interface> {
     all
 }
 
-/// Every task up to a period.
-fn tasks(longest: u32) -> Vec<Task> {
+/// Every task up to a period, with every lateness.
+pub fn tasks(longest: u32) -> Vec<Task> {
     let mut all = vec![];
     for period in 1..=longest {
         for deadline in 1..=period {
-            all.extend((1..=deadline).map(|work| Task::new(period, work, deadline)));
+            for work in 1..=deadline {
+                all.extend((0..=deadline - work).map(|lateness| Task::new(period, work, deadline).late(lateness)));
+            }
         }
     }
     all
@@ -76,27 +79,40 @@ pub fn components() -> Vec<String> {
     calls
 }
 
-/// For each of those components two calls, one after the other: its verdict, and the walk of its hardest run over two common periods.
-/// In that run each task releases its full work in slot 0 and again each T slots, on the worst trace. By RULES 7 the walk misses at just
-/// the verdict's instant, and nowhere if the verdict is accepted.
+/// The jobs of a table's hardest run over so many slots: each task releases its full work J slots before slot 0 and again each T slots.
+/// The last argument chooses the readiness between its ends, for the job of a number from 0 on of a task.
+pub fn hardest(table: &Table, slots: u64, ready: impl Fn(u64, u64, u64) -> u64) -> Jobs {
+    let mut jobs = vec![];
+    for (number, task) in table.tasks.iter().enumerate() {
+        let (period, lateness) = (task.period as i64, task.lateness as i64);
+        let releases = (-lateness..slots as i64).step_by(period as usize);
+        jobs.extend(releases.enumerate().map(|(count, release)| {
+            let ready = ready(release.max(0) as u64, (release + lateness) as u64, (number + count) as u64);
+            Job { release, task: number as u32, ready, work: task.work }
+        }));
+    }
+    jobs.sort();
+    Jobs::of(&jobs)
+}
+
+/// For each of those components its verdict and then walks of its hardest run on the worst trace over two common periods: with the jobs
+/// ready as late as they may be, as early, and in turn at each slot between. By RULES 7 every one of the walks misses at just the
+/// verdict's instant, and nowhere if the verdict is accepted.
 pub fn runs() -> Vec<String> {
     let mut calls = vec![];
     for interface in interfaces(3) {
         for table in tables(4) {
             let stated = component(interface, Capacity::Stated(interface.capacity), &table);
             let slots = 2 * stated.common_period().expect("a small common period");
-            let mut jobs: Vec<(u32, u32, u32)> = vec![];
-            for (number, task) in table.tasks.iter().enumerate() {
-                jobs.extend((0..slots as u32).step_by(task.period as usize).map(|release| (release, number as u32, task.work)));
-            }
-            jobs.sort();
-            let list = |of: &dyn Fn(&(u32, u32, u32)) -> u32| {
-                jobs.iter().fold(jobs.len().to_string(), |list, job| list + " " + &of(job).to_string())
-            };
-            let (tasks, releases, works) = (list(&|job| job.1), list(&|job| job.0), list(&|job| job.2));
             let (_, row) = trace::worst(&interface, slots);
+            let mut runs = vec![
+                hardest(&table, slots, |_, latest, _| latest),
+                hardest(&table, slots, |earliest, _, _| earliest),
+                hardest(&table, slots, |earliest, latest, turn| earliest + turn % (latest - earliest + 1)),
+            ];
+            runs.dedup();
             calls.push(format!("verdict {}", component_text(&stated)));
-            calls.push(format!("walk {} {tasks} {releases} {works} {} {}", table_text(&table), row_text(&row), jobs.len()));
+            calls.extend(runs.iter().map(|jobs| walk_text(&table, jobs, &row)));
         }
     }
     calls
@@ -136,20 +152,57 @@ pub fn sheets() -> Vec<String> {
         all.push([full.clone(), vec![0; length - full.len()]].concat());
     }
     let mut calls: Vec<String> = all.iter().map(|bytes| format!("sheet {}", row_text(bytes))).collect();
+    calls.extend(late().iter().flat_map(|bytes| ["sheet ROW", "read ROW 0"].map(|call| call.replace("ROW", &row_text(bytes)))));
     calls.extend(nested().iter().flat_map(|bytes| ["sheet ROW", "read_pair ROW 0", "host_all ROW 120 0"].map(|call| call.replace("ROW", &row_text(bytes)))));
     calls
+}
+
+/// A small sheet with a late task between two others damaged in every way: cut at every byte, every value of every byte of the late task's
+/// record, each record in the place of each; the late task with all small values, stated as late and not; and late tasks where none may
+/// be, in range and out of it: before the component, behind 64 others, behind a pair.
+fn late() -> Vec<Vec<u8>> {
+    let bytes = |lines: &str| text::bytes(lines).expect("a sheet's text");
+    let records = ["component 1 stated 6 2 4", "task 8 2 8", "task 8 2 8 1", "task 4 1 4 3", "component 2 asked 6 4", "end 2"].map(bytes);
+    let (before, behind) = (records[..2].concat(), records[3..].concat());
+    let with = |record: &[u8]| [&before, record, &behind].concat();
+    let small = records.concat();
+    let mut all: Vec<Vec<u8>> = (0..=small.len()).map(|end| small[..end].to_vec()).collect();
+    for at in 0..records[2].len() {
+        all.extend((0..=255).map(|value| with(&[&records[2][..at], &[value], &records[2][at + 1..]].concat())));
+    }
+    for place in 0..records.len() {
+        all.extend(records.iter().map(|record| {
+            let mut other = records.clone();
+            other[place] = record.clone();
+            other.concat()
+        }));
+    }
+    let tasks = (0..6 * 6 * 6).map(|value| Task::new(value % 6, value / 6 % 6, value / 36));
+    for task in tasks {
+        all.push(with(&sheet::plain_bytes(&task)));
+        all.extend((0..6).map(|lateness| with(&sheet::late_bytes(&task.late(lateness)))));
+    }
+    for lateness in [0, 1, 6, 7, u32::MAX] {
+        let late = sheet::late_bytes(&Task::new(8, 2, 8).late(lateness));
+        let full = [records[0].clone(), bytes("task 8 2 8 6").repeat(64)].concat();
+        all.push([&late, &small[..]].concat());
+        all.push([&full, &late[..], &behind].concat());
+        all.push([&full[..full.len() - 20], &late, &behind[20..]].concat());
+        all.push([&small[..small.len() - 6], &bytes("pair 1 2"), &late, &bytes("end 2")].concat());
+    }
+    all
 }
 
 /// A small nested sheet damaged in every way: cut at every byte, a few values of every byte and every value of its pairs' bytes, each
 /// record left out, twice there or behind each other one, every pair of two numbers up to 4, every end count up to 8.
 fn nested() -> Vec<Vec<u8>> {
-    let lines = "component 1 stated 6 2 4\ntask 8 2 8\ncomponent 2 asked 1 1\ntask 4 2 4\ncomponent 3 stated 1 1 1\npair 1 2\npair 2 3\nend 3\n";
+    let lines = "component 1 stated 6 2 4\ntask 8 2 8\ncomponent 2 asked 1 1\ntask 4 2 4\ntask 24 1 24 5\ncomponent 3 stated 1 1 1\npair 1 2\npair 2 3\nend 3\n";
     let bytes = |lines: &str| text::bytes(lines).expect("a sheet's text");
     let small = bytes(lines);
     let pairs = small.len() - 6 - 2 * 8;
     let mut all: Vec<Vec<u8>> = (0..=small.len()).map(|end| small[..end].to_vec()).collect();
     for at in 0..small.len() {
-        let few = [0, 1, 2, 3, 4, 5, 6, 7, 8, 14, 16, 18, 255];
+        let few = [0, 1, 2, 3, 4, 5, 6, 7, 8, 14, 16, 18, 20, 255];
         let values: Vec<u8> = if at < pairs { few.to_vec() } else { (0..=255).collect() };
         all.extend(values.iter().map(|&value| [&small[..at], &[value], &small[at + 1..]].concat()));
     }

@@ -1,9 +1,10 @@
 //! Calls made by chance: in range and out of range, legal and damaged, small and at the ends of each range.
 
-use crate::calls::{component_text, row_text, table_text};
+use crate::calls::{component_text, jobs_text, row_text, table_text, task_text};
 use crate::chance::Chance;
 use crate::nested::{self, Made};
 use crate::numbers::{Capacity, Component, Interface, Table, Task, LIMIT};
+use crate::run::{Job, Jobs};
 use crate::{calls, host, sheet, trace};
 
 /// The kinds of call.
@@ -74,8 +75,7 @@ pub fn call(c: &mut Chance, kind: &str) -> Option<String> {
         }
         "write" => {
             let component = given_component(c);
-            let length = 18 + 16 * component.table.count.min(64);
-            room(c, &component_text(&component), length)
+            room(c, &component_text(&component), sheet::component_bytes(&component).len() as u64)
         }
         "write_end" => {
             let count = c.pick(&[0, 1, 2, 255, 256, 257, 65_535, 65_536, 1 << 32, u64::MAX]);
@@ -102,10 +102,6 @@ pub fn call(c: &mut Chance, kind: &str) -> Option<String> {
         _ => return None,
     };
     Some(format!("{kind} {rest}"))
-}
-
-fn task_text(task: &Task) -> String {
-    format!("{} {} {}", task.period, task.work, task.deadline)
 }
 
 fn interface_text(interface: &Interface) -> String {
@@ -150,7 +146,19 @@ fn size(c: &mut Chance) -> u32 {
 fn task_within(c: &mut Chance, period: u32) -> Task {
     let deadline = if c.one_in(3) { period } else { c.between(1, period as u64) as u32 };
     let work = if c.one_in(4) { c.between(1, deadline as u64) } else { c.between(1, 1 + deadline as u64 / 4) } as u32;
-    Task::new(period, work.min(deadline), deadline)
+    let work = work.min(deadline);
+    let lateness = lateness(c, deadline - work);
+    Task::new(period, work, deadline).late(lateness)
+}
+
+/// A lateness up to the largest: often none, else a little, the largest or any.
+fn lateness(c: &mut Chance, largest: u32) -> u32 {
+    match c.below(8) {
+        0 => largest,
+        1 | 2 => c.between(0, largest.min(3) as u64) as u32,
+        3 => c.between(0, largest as u64) as u32,
+        _ => 0,
+    }
 }
 
 fn task(c: &mut Chance) -> Task {
@@ -160,13 +168,16 @@ fn task(c: &mut Chance) -> Task {
 
 fn damage_task(c: &mut Chance, task: &mut Task) {
     let value = odd_number(c);
-    match c.below(6) {
+    match c.below(9) {
         0 => task.period = value,
         1 => task.work = value,
         2 => task.deadline = value,
         3 => task.deadline = task.period.wrapping_add(1),
         4 => task.work = task.deadline.wrapping_add(1),
-        _ => task.work = 0,
+        5 => task.work = 0,
+        6 => task.lateness = value,
+        7 => task.lateness = task.deadline - task.work + 1,
+        _ => task.lateness = c.pick(&[task.deadline, task.period, u32::MAX - 1, u32::MAX]).max(task.deadline - task.work + 1),
     }
 }
 
@@ -377,39 +388,75 @@ fn legal(c: &mut Chance) -> String {
     format!("{} {offset} {}", interface_text(&interface), row_text(&row))
 }
 
-/// Legal arrivals of a table over so many slots: task, release, work.
-fn arrivals(c: &mut Chance, table: &Table, slots: u64) -> Vec<(u64, u32, u32)> {
+/// Legal arrivals of a table over so many slots: the first job of a task may be released up to J slots before slot 0, and each job is
+/// ready as early as it may be, as late, or between.
+fn arrivals(c: &mut Chance, table: &Table, slots: u64) -> Vec<Job> {
     let mut all = vec![];
     for (number, task) in table.tasks.iter().enumerate() {
-        let mut release = if c.one_in(2) { 0 } else { c.below(8) };
-        while release < slots && all.len() < 1_200 {
-            let work = if c.one_in(2) { task.work as u64 } else { c.between(1, task.work.max(1) as u64) };
-            all.push((release, number as u32, work as u32));
-            release += task.period.max(1) as u64 + if c.one_in(3) { c.below(5) } else { 0 };
+        let lateness = task.lateness as i64;
+        let mut release = match c.below(4) {
+            0 => 0,
+            1 => -lateness,
+            2 => c.below(8) as i64,
+            _ => c.below(lateness as u64 + 8) as i64 - lateness,
+        };
+        let manner = c.below(4);
+        while release < slots as i64 && all.len() < 1_200 {
+            let work = if c.one_in(2) { task.work as u64 } else { c.between(1, task.work.max(1) as u64) } as u32;
+            let (earliest, latest) = (release.max(0) as u64, (release + lateness) as u64);
+            let ready = match manner {
+                0 => earliest,
+                1 => latest,
+                _ => c.between(earliest, latest),
+            };
+            all.push(Job { release, task: number as u32, ready, work });
+            release += task.period.max(1) as i64 + if c.one_in(3) { c.below(5) as i64 } else { 0 };
         }
     }
     all.sort();
     all
 }
 
-fn damage_jobs(c: &mut Chance, jobs: &mut [(u64, u32, u32)]) {
+/// The job later by so many slots, its readiness with it as far as slot 0.
+fn moved(job: Job, slots: i64) -> Job {
+    Job { release: job.release + slots, ready: (job.ready as i64 + slots).max(0) as u64, ..job }
+}
+
+/// Breaks a rule of the run, or comes close to it.
+fn damage_jobs(c: &mut Chance, table: &Table, slots: u64, jobs: &mut [Job]) {
     if jobs.is_empty() {
         return;
     }
     let chosen = c.below(jobs.len() as u64) as usize;
-    match c.below(6) {
-        0 => jobs[chosen].0 += c.pick(&[1, 2, 60, 70_000]),
-        1 => jobs[chosen].1 = c.pick(&[0, 1, 2, 63, 64, 65, u32::MAX]),
-        2 => jobs[chosen].2 = c.pick(&[0, 1, 2, 5, u32::MAX]),
+    let job = jobs[chosen];
+    let task = table.tasks.get(job.task as usize).copied().unwrap_or(Task::new(1, 1, 1));
+    let lateness = task.lateness as i64;
+    match c.below(15) {
+        0 => jobs[chosen] = moved(job, c.pick(&[1, 2, 60, 70_000])),
+        1 => jobs[chosen].task = c.pick(&[0, 1, 2, 63, 64, 65, u32::MAX]),
+        2 => jobs[chosen].work = c.pick(&[0, 1, 2, 5, u32::MAX]),
         3 => jobs.swap(0, chosen),
-        4 => jobs[chosen].0 = jobs[chosen].0.saturating_sub(1),
-        _ => jobs[chosen].2 += 1,
+        4 => jobs[chosen] = moved(job, -1),
+        5 => jobs[chosen].work += 1,
+        6 | 7 => jobs[chosen].ready = (job.release + lateness + 1).max(0) as u64,
+        8 => jobs[chosen].ready = c.pick(&[job.release - 1, 0, job.release, job.release + lateness]).max(0) as u64,
+        9 => jobs[chosen].ready = c.pick(&[0, 1 << 31, u32::MAX as u64 - 1, u32::MAX as u64]),
+        10 => jobs[0] = Job { release: c.pick(&[-lateness - 1, -lateness - 1, -lateness, i32::MIN as i64]), ready: 0, ..jobs[0] },
+        11 => {
+            let last = jobs.len() - 1;
+            let end = slots as i64 + c.pick(&[0, 0, -1, 1, i32::MAX as i64]);
+            jobs[last] = Job { release: end, ready: end.max(0) as u64 + c.below(lateness as u64 + 1), ..jobs[last] };
+        }
+        12 | 13 => {
+            // the next job of the same task, as early as it may be or a slot earlier
+            if let Some(next) = (chosen + 1..jobs.len()).find(|&next| jobs[next].task == job.task) {
+                let release = job.release + task.period as i64 - c.pick(&[0, 1, 1]);
+                jobs[next] = moved(jobs[next], release - jobs[next].release);
+                jobs.sort();
+            }
+        }
+        _ => jobs.swap(chosen, (chosen + 1) % jobs.len()),
     }
-}
-
-fn list(values: impl ExactSizeIterator<Item = u64>) -> String {
-    let count = values.len();
-    values.fold(count.to_string(), |text, value| format!("{text} {value}"))
 }
 
 fn walk(c: &mut Chance) -> String {
@@ -420,33 +467,34 @@ fn walk(c: &mut Chance) -> String {
         let periods = [3, 4, 5, 6, 8, 10, 12];
         Table::new((0..count).map(|_| {
             let period = c.pick(&periods);
-            task_within(c, period)
+            let task = task_within(c, period);
+            if c.one_in(2) { task.late(c.between(0, (task.deadline - task.work) as u64) as u32) } else { task }
         }).collect())
     };
-    let crowded = c.one_in(150);
+    let crowded = c.one_in(100);
     let slots = if crowded { 6_000 } else { trace_length(c) };
     let mut jobs = arrivals(c, &table, slots);
     jobs.truncate(if crowded { c.pick(&[1_023, 1_024, 1_025]) } else { 1_024 });
-    if c.one_in(5) {
-        damage_jobs(c, &mut jobs);
+    if c.one_in(4) {
+        damage_jobs(c, &table, slots, &mut jobs);
     }
     let mut row = bits(c, slots);
     damage_trace(c, &mut row);
-    let mut lists = [
-        jobs.iter().map(|j| j.1 as u64).collect::<Vec<u64>>(),
-        jobs.iter().map(|j| j.0.min(u32::MAX as u64)).collect(),
-        jobs.iter().map(|j| j.2 as u64).collect(),
-    ];
+    let mut lists = Jobs::of(&jobs);
     if c.one_in(20) {
-        lists[c.below(3) as usize].pop();
+        match c.below(4) {
+            0 => lists.tasks.pop().map(drop),
+            1 => lists.releases.pop().map(drop),
+            2 => lists.ready.pop().map(drop),
+            _ => lists.works.pop().map(drop),
+        };
     }
     let length = match c.below(12) {
         0 => jobs.len() as u64 + 1,
         1 => (jobs.len() as u64).saturating_sub(1),
         _ => jobs.len() as u64,
     };
-    let texts: Vec<String> = lists.into_iter().map(|values| list(values.into_iter())).collect();
-    format!("{} {} {} {length}", table_text(&table), texts.join(" "), row_text(&row))
+    format!("{} {} {} {length}", table_text(&table), jobs_text(&lists), row_text(&row))
 }
 
 /// Components in range with rising numbers, small enough to be judged quickly.
@@ -471,15 +519,17 @@ fn sheet_of(components: &[Component]) -> Vec<u8> {
     bytes
 }
 
-/// A sheet of exactly 65,536 bytes: 36 stated and 31 asked components with 4,028 tasks among them.
+/// A sheet of exactly 65,536 bytes: 36 stated and 31 asked components with 4,028 tasks on time among them, or with four late ones in the
+/// place of some five.
 fn full_sheet(c: &mut Chance) -> Vec<u8> {
-    let mut left = 4_028;
+    let fours = c.pick(&[0, 100, 805]);
+    let mut tasks: Vec<Task> = (0..4_028 - fours).map(|count| {
+        Task::new(c.pick(&[2, 3, 4, 6]), 1, 2).late((count < 4 * fours) as u32)
+    }).collect();
     let components: Vec<Component> = (0..67u16).map(|number| {
-        let own = left.min(64);
-        left -= own;
+        let own = tasks.split_off(tasks.len().saturating_sub(64));
         let capacity = if number < 36 { Capacity::Stated(1) } else { Capacity::Asked };
-        let tasks = (0..own).map(|_| Task::new(c.pick(&[2, 3, 4, 6]), 1, 2));
-        Component { number, period: 6, capacity, deadline: 2, table: Table::new(tasks.collect()) }
+        Component { number, period: 6, capacity, deadline: 2, table: Table::new(own) }
     }).collect();
     sheet_of(&components)
 }
@@ -494,18 +544,20 @@ fn many_components(c: &mut Chance) -> Vec<u8> {
     sheet_of(&components)
 }
 
-/// A component with 65 tasks, which a sheet can't hold.
+/// A component with 64 tasks, sometimes with one more, which a sheet can't hold.
 fn too_many_tasks(c: &mut Chance) -> Vec<u8> {
-    let count = c.pick(&[64, 65]);
-    let tasks = vec![Task::new(8, 2, 8); count];
-    sheet_of(&[Component { number: 4, period: 6, capacity: Capacity::Asked, deadline: 4, table: Table::new(tasks) }])
+    let task = Task::new(8, 2, 8);
+    let tasks = vec![task.late(c.pick(&[0, 6])); 64];
+    let component = Component { number: 4, period: 6, capacity: Capacity::Asked, deadline: 4, table: Table::new(tasks) };
+    let more = if c.one_in(3) { vec![] } else { nested::some_task(c, task) };
+    [sheet::component_bytes(&component), more, sheet::end_bytes(1)].concat()
 }
 
 fn damage_sheet(c: &mut Chance, bytes: &mut Vec<u8>) {
     let length = bytes.len() as u64;
     let starts = record_places(bytes);
     let start = c.pick(&starts);
-    match c.below(12) {
+    match c.below(15) {
         0 => bytes.truncate(c.below(length) as usize),
         1 => bytes.truncate(start),
         2 => bytes.truncate((start + c.below(6) as usize).min(bytes.len())),
@@ -513,21 +565,42 @@ fn damage_sheet(c: &mut Chance, bytes: &mut Vec<u8>) {
             let at = c.below(length) as usize;
             bytes[at] = c.next() as u8;
         }
-        4 => bytes[start] = c.pick(&[0, 4, 6, 8, 14, 16, 18, 255]),
+        4 => bytes[start] = c.pick(&[0, 4, 6, 8, 14, 16, 18, 20, 255]),
         5 => bytes[start + 2] = c.pick(&[0, 1, 2, 3, 4, 5, 6, 16]),
         6 => bytes.extend(sheet::end_bytes(0)),
         7 => bytes.push(c.next() as u8),
         8 => {
-            let at = (start + 4 + c.below(14) as usize).min(bytes.len() - 1);
+            let at = (start + 4 + c.below(16) as usize).min(bytes.len() - 1);
             bytes[at] = c.pick(&[0, 1, 16, 255]);
         }
         9 | 10 => {
             let low = c.below(2) as u8;
             bytes[start + 4..start + 6].copy_from_slice(&[low, 0]);
         }
-        _ => {
+        11 => {
             bytes.drain(..start);
         }
+        _ => {
+            let at = starts.iter().position(|&place| place >= start).unwrap_or(0);
+            if let Some(&place) = starts[at..].iter().find(|&&place| [sheet::TASK, sheet::LATE].contains(&sheet::number(bytes, place + 2))) {
+                state_lateness(c, bytes, place);
+            }
+        }
+    }
+}
+
+/// Puts a record that states a lateness, in range or out of it, in the place of a task's, and now and then in front of all.
+fn state_lateness(c: &mut Chance, bytes: &mut Vec<u8>, place: usize) {
+    let length = sheet::number(bytes, place) as usize;
+    let task = Task::new(sheet::time(bytes, place + 4), sheet::time(bytes, place + 8), sheet::time(bytes, place + 12));
+    let largest = task.deadline.saturating_sub(task.work);
+    let more = largest.saturating_add(1);
+    let late = sheet::late_bytes(&task.late(c.pick(&[0, 0, 1, largest, more, more, u32::MAX])));
+    if c.one_in(6) {
+        bytes.drain(..place);
+        bytes.splice(..length, late);
+    } else {
+        bytes.splice(place..place + length, late);
     }
 }
 

@@ -79,8 +79,9 @@ pub fn margin(component: &Component) -> Result<Margin, Refusal> {
 mod tests {
     use super::*;
     use crate::chance::Chance;
+    use crate::exhaust::{hardest, interfaces, tasks};
     use crate::numbers::Task;
-    use crate::run::{check_jobs, run, Jobs};
+    use crate::run::{check_jobs, run, Job, Jobs, JOBS};
     use crate::trace;
 
     fn component(interface: (u32, Option<u32>, u32), tasks: &[(u32, u32, u32)]) -> Component {
@@ -103,6 +104,20 @@ mod tests {
         assert_eq!(margin(&eleven), Ok(Some((-1, 7))));
     }
 
+    /// The figures of the request: (8, 2, 8, J) on (6, 2, 4), and asked with Π 6 and Δ 4.
+    #[test]
+    fn what_lateness_costs() {
+        let of = |capacity, lateness| Component { table: Table::new(vec![Task::new(8, 2, 8).late(lateness)]), ..component((6, capacity, 4), &[]) };
+        let stated = |lateness| (verdict(&of(Some(2), lateness)), margin(&of(Some(2), lateness)));
+        assert_eq!(stated(0), (Ok((Verdict::Accepted, 2)), Ok(Some((0, 8)))));
+        assert_eq!(stated(1), (Ok((Verdict::Short(7), 2)), Ok(Some((-1, 7)))));
+        assert_eq!(stated(2), (Ok((Verdict::Short(6), 2)), Ok(Some((-2, 6)))));
+        assert_eq!(stated(6).0, Ok((Verdict::Short(2), 2)));
+        assert_eq!(stated(7), (Err(9), Err(9)));
+        let asked: Vec<Option<u32>> = (0..=6).map(|lateness| smallest(&of(None, lateness)).unwrap()).collect();
+        assert_eq!(asked, [Some(2), Some(3), Some(3), Some(4), Some(4), None, None]);
+    }
+
     #[test]
     fn no_tasks_ask_no_capacity_and_have_no_margin() {
         let empty = component((6, None, 4), &[]);
@@ -110,30 +125,73 @@ mod tests {
         assert_eq!(margin(&empty), Ok(None));
     }
 
-    /// As many jobs as can be released before an instant, from slot 0 on and T slots apart, with their full work.
-    fn densest(table: &Table, slots: u64) -> Jobs {
-        let mut all: Vec<(u32, u32, u32)> = vec![];
-        for (number, task) in table.tasks.iter().enumerate() {
-            all.extend((0..slots as u32).step_by(task.period as usize).map(|release| (release, number as u32, task.work)));
-        }
-        all.sort();
-        Jobs { releases: all.iter().map(|j| j.0).collect(), tasks: all.iter().map(|j| j.1).collect(), works: all.iter().map(|j| j.2).collect() }
-    }
-
-    /// On the worst trace with the densest arrivals the first miss is exactly at the first short instant, and an accepted
-    /// component misses nothing over two common periods.
+    /// On the worst trace with the densest arrivals the first miss is exactly at the first short instant, whenever the jobs become ready,
+    /// and an accepted component misses nothing over two common periods.
     #[test]
     fn the_constructed_run_misses_exactly_at_the_first_short_instant() {
         let mut chance = Chance::new(1);
+        let mut earlier = 0;
         for _ in 0..3_000 {
             let (interface, table) = small(&mut chance);
             let common = with(interface, &table).common_period().unwrap();
             let slots = 2 * common;
             let (_, row) = trace::worst(&interface, slots);
-            let jobs = densest(&table, slots);
-            let miss = run(&table, &jobs, &row).miss.map(|(instant, _)| instant);
-            assert_eq!(miss, first_short(&interface, &table, common), "{interface:?} {table:?}");
+            let short = first_short(&interface, &table, common);
+            for _ in 0..3 {
+                let turns: Vec<u64> = (0..=slots + 3).map(|_| chance.next() >> 8).collect();
+                let jobs = hardest(&table, slots, |earliest, latest, turn| earliest + turns[turn as usize] % (latest - earliest + 1));
+                assert!(jobs.tasks.len() > JOBS || check_jobs(&table, &jobs, slots as usize).is_ok());
+                let miss = run(&table, &jobs, &row).miss.map(|(instant, _)| instant);
+                assert_eq!(miss, short, "{interface:?} {table:?} {jobs:?}");
+            }
+            let on_time = Table::new(table.tasks.iter().map(|task| task.late(0)).collect());
+            earlier += (short < first_short(&interface, &on_time, common) && short.is_some()) as u32;
         }
+        assert!(earlier > 100, "{earlier}");
+    }
+
+    /// All runs there are of a small component over a few slots: every legal trace, every release, readiness and work. The earliest miss
+    /// of all of them is at the first short instant, and where that lies behind the slots none misses.
+    #[test]
+    fn of_all_runs_the_earliest_miss_is_at_the_first_short_instant() {
+        let slots = 6;
+        for interface in interfaces(3) {
+            let traces: Vec<Vec<u8>> = legal_traces(&interface, slots);
+            for task in tasks(3) {
+                let table = Table::new(vec![task]);
+                let runs = every_arrival(&task, slots);
+                let misses = traces.iter().flat_map(|row| runs.iter().filter_map(|jobs| run(&table, jobs, row).miss));
+                let earliest = misses.map(|(instant, _)| instant).min();
+                let common = with(interface, &table).common_period().unwrap();
+                let short = first_short(&interface, &table, common).filter(|&short| short <= slots as u64);
+                assert_eq!(earliest, short, "{interface:?} {task:?}");
+            }
+        }
+    }
+
+    fn legal_traces(interface: &Interface, slots: usize) -> Vec<Vec<u8>> {
+        let rows = (0..1u32 << slots).map(|bits| (0..slots).map(|slot| (bits >> slot & 1) as u8).collect::<Vec<u8>>());
+        rows.filter(|row| (0..interface.period as u64).any(|offset| trace::legal(interface, offset, row))).collect()
+    }
+
+    /// Every legal arrival of a task's jobs over so many slots.
+    fn every_arrival(task: &Task, slots: usize) -> Vec<Jobs> {
+        let mut all: Vec<Vec<Job>> = vec![vec![]];
+        for release in -(task.lateness as i64)..slots as i64 {
+            for begun in all.clone() {
+                if begun.last().map_or(false, |last| release < last.release + task.period as i64) {
+                    continue;
+                }
+                for ready in release.max(0)..=release + task.lateness as i64 {
+                    for work in 1..=task.work {
+                        all.push(begun.iter().copied().chain([Job { release, task: 0, ready: ready as u64, work }]).collect());
+                    }
+                }
+            }
+        }
+        let lists: Vec<Jobs> = all.iter().map(|jobs| Jobs::of(jobs)).collect();
+        assert!(lists.iter().all(|jobs| check_jobs(&Table::new(vec![*task]), jobs, slots).is_ok()));
+        lists
     }
 
     /// Any legal arrivals on any legal trace never miss before the first short instant.
@@ -147,7 +205,7 @@ mod tests {
             let slots = chance.below(60) as usize + 1;
             let (offset, row) = legal_trace(&mut chance, &interface, slots);
             assert!(trace::legal(&interface, offset, &row));
-            let jobs = arrivals(&mut chance, &table, slots as u32);
+            let jobs = arrivals(&mut chance, &table, slots as i64);
             check_jobs(&table, &jobs, slots).unwrap();
             if let Some((instant, _)) = run(&table, &jobs, &row).miss {
                 assert!(first.map_or(false, |short| short <= instant), "{interface:?} {table:?} {jobs:?} {row:?}");
@@ -166,7 +224,9 @@ mod tests {
         let tasks = (0..chance.between(1, 3)).map(|_| {
             let period = chance.between(1, 9) as u32;
             let deadline = chance.between(1, period as u64) as u32;
-            Task::new(period, chance.between(1, deadline.min(3) as u64) as u32, deadline)
+            let work = chance.between(1, deadline.min(3) as u64) as u32;
+            let lateness = if chance.one_in(2) { 0 } else { chance.between(0, (deadline - work) as u64) as u32 };
+            Task::new(period, work, deadline).late(lateness)
         });
         (Interface::new(period, capacity, deadline), Table::new(tasks.collect()))
     }
@@ -184,16 +244,18 @@ mod tests {
         (offset, row)
     }
 
-    fn arrivals(chance: &mut Chance, table: &Table, slots: u32) -> Jobs {
-        let mut all: Vec<(u32, u32, u32)> = vec![];
+    fn arrivals(chance: &mut Chance, table: &Table, slots: i64) -> Jobs {
+        let mut all = vec![];
         for (number, task) in table.tasks.iter().enumerate() {
-            let mut release = if chance.one_in(2) { 0 } else { chance.below(6) as u32 };
+            let lateness = task.lateness as i64;
+            let mut release = if chance.one_in(2) { -lateness } else { chance.below(6 + lateness as u64) as i64 - lateness };
             while release < slots {
-                all.push((release, number as u32, chance.between(1, task.work as u64) as u32));
-                release += task.period + if chance.one_in(3) { chance.below(5) as u32 } else { 0 };
+                let ready = chance.between(release.max(0) as u64, (release + lateness) as u64);
+                all.push(Job { release, task: number as u32, ready, work: chance.between(1, task.work as u64) as u32 });
+                release += task.period as i64 + if chance.one_in(3) { chance.below(5) as i64 } else { 0 };
             }
         }
         all.sort();
-        Jobs { releases: all.iter().map(|j| j.0).collect(), tasks: all.iter().map(|j| j.1).collect(), works: all.iter().map(|j| j.2).collect() }
+        Jobs::of(&all)
     }
 }

@@ -4,6 +4,7 @@ mod bench;
 mod calls;
 mod chance;
 mod coverage;
+mod coverage_late;
 mod coverage_pairs;
 mod demand;
 mod exhaust;

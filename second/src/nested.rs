@@ -79,7 +79,14 @@ fn tasks(c: &mut Chance, divisors: &[u32]) -> Vec<Task> {
     (0..count).map(|_| {
         let period = c.pick(divisors);
         let work = c.between(1, 1 + period as u64 / 8) as u32;
-        Task::new(period, work, if c.one_in(2) { period } else { c.between(work as u64, period as u64) as u32 })
+        let deadline = if c.one_in(2) { period } else { c.between(work as u64, period as u64) as u32 };
+        let lateness = match c.below(5) {
+            0 => deadline - work,
+            1 => c.between(0, (deadline - work) as u64) as u32,
+            2 => c.between(0, (deadline - work) as u64 / 4) as u32,
+            _ => 0,
+        };
+        Task::new(period, work, deadline).late(lateness)
     }).collect()
 }
 
@@ -187,6 +194,9 @@ fn filled(c: &mut Chance) -> Nest {
     let parent = children as usize;
     nest.components.push(component(children, c.pick(&[(1, Some(1), 1), (2, None, 2), (4, Some(3), 4)]), &vec![task; own]));
     (0..parent).for_each(|child| nest.join(child, parent));
+    if c.one_in(3) {
+        nest.components[parent].table.tasks.iter_mut().for_each(|task| task.lateness = c.below(8) as u32);
+    }
     let above = c.below(3);
     if above > 0 {
         nest.components.push(component(children + 1, (1, Some(1), 1), &vec![task; c.pick(&[0, 64])]));
@@ -257,6 +267,14 @@ fn full(c: &mut Chance) -> Vec<u8> {
     bytes
 }
 
+/// A task's record, with its lateness stated or not; a stated one may be out of range.
+pub fn some_task(c: &mut Chance, task: Task) -> Vec<u8> {
+    match c.below(2) {
+        0 => sheet::late_bytes(&task.late(c.pick(&[0, 1, 6, 7]))),
+        _ => sheet::plain_bytes(&task),
+    }
+}
+
 /// A record behind a pair, whole or cut, or a pair that breaks a rule, is cut or has another length or kind, or an end among the pairs or
 /// one that counts them.
 fn damaged(c: &mut Chance, nest: &Nest) -> Vec<u8> {
@@ -282,7 +300,7 @@ fn damaged(c: &mut Chance, nest: &Nest) -> Vec<u8> {
         4 => records[place] = sheet::pair_bytes(&Pair { child: pair.parent, parent: c.pick(&[pair.parent, pair.child]) }),
         5 | 6 => {
             let period = c.pick(&[8, 8, 1]);
-            records.insert(place + 1, sheet::task_bytes(&Task::new(period, 2, 8)));
+            records.insert(place + 1, some_task(c, Task::new(period, 2, 8)));
         }
         7 | 8 => {
             let number = if c.one_in(3) { last } else { last.saturating_add(1) };
@@ -294,17 +312,17 @@ fn damaged(c: &mut Chance, nest: &Nest) -> Vec<u8> {
             let before = c.below(place as u64 + 1) as usize;
             records.insert(before, moved);
         }
-        10 => records[place][0] = c.pick(&[0, 4, 6, 7, 9, 16, 18, 255]),
+        10 => records[place][0] = c.pick(&[0, 4, 6, 7, 9, 16, 18, 20, 255]),
         11 => {
             let length = c.below(8) as usize;
             records[place].truncate(length);
             records.truncate(place + 1);
         }
         12 => records[end] = sheet::end_bytes((own + nest.pairs.len()) as u16),
-        13 => records[place][2] = c.pick(&[0, 1, 2, 3, 4, 5, 7, 16]),
+        13 => records[place][2] = c.pick(&[0, 1, 2, 3, 4, 5, 7, 8, 16]),
         14 => {
             let (period, length) = (c.pick(&[8, 1]), c.below(16) as usize);
-            records[place + 1] = sheet::task_bytes(&Task::new(period, 2, 8))[..length].to_vec();
+            records[place + 1] = some_task(c, Task::new(period, 2, 8))[..length].to_vec();
             records.truncate(place + 2);
         }
         15 => records[place].extend(sheet::end_bytes(own as u16)),

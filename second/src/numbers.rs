@@ -13,6 +13,8 @@ pub struct Task {
     pub period: u32,
     pub work: u32,
     pub deadline: u32,
+    /// How many slots after its release a job may become ready.
+    pub lateness: u32,
 }
 
 /// A task table as it is given: a count, which may be out of range, and the tasks of the places below it.
@@ -45,14 +47,25 @@ pub struct Component {
 }
 
 impl Task {
+    /// A task whose jobs are ready at their release.
     pub fn new(period: u32, work: u32, deadline: u32) -> Task {
-        Task { period, work, deadline }
+        Task { period, work, deadline, lateness: 0 }
+    }
+
+    /// The same task with jobs that become ready up to so many slots later.
+    pub fn late(self, lateness: u32) -> Task {
+        Task { lateness, ..self }
     }
 
     /// A task in range, else 9 (RULES 2).
     pub fn check(&self) -> Result<(), Refusal> {
         let fits = 1 <= self.work && self.work <= self.deadline && self.deadline <= self.period && self.period as u64 <= LIMIT;
-        if fits { Ok(()) } else { Err(9) }
+        if fits && self.lateness <= self.deadline - self.work { Ok(()) } else { Err(9) }
+    }
+
+    /// The slots from the last slot at which a job may become ready to its deadline: D − J, of a task in range.
+    pub fn span(&self) -> u32 {
+        self.deadline - self.lateness
     }
 }
 
@@ -167,6 +180,13 @@ mod tests {
         assert!(Task::new(5, 0, 5).check().is_err());
         assert!(Task::new(5, 4, 3).check().is_err());
         assert!(Task::new(5, 4, 6).check().is_err());
+        assert!(Task::new(8, 2, 8).late(6).check().is_ok());
+        assert!(Task::new(8, 2, 8).late(7).check().is_err());
+        assert!(Task::new(8, 8, 8).check().is_ok());
+        assert!(Task::new(8, 8, 8).late(1).check().is_err());
+        assert!(Task::new(8, 9, 8).late(u32::MAX).check().is_err());
+        assert!(Task::new(1_048_576, 1, 1_048_576).late(1_048_575).check().is_ok());
+        assert!(Task::new(8, 2, 8).late(u32::MAX).check().is_err());
         assert!(Interface::new(1_048_576, 0, 1).check().is_ok());
         assert!(Interface::new(1, 0, 0).check().is_err());
         assert!(Interface::new(4, 3, 2).check().is_err());
@@ -199,6 +219,10 @@ mod tests {
         let more = add_task(&fewer, Task::new(4, 1, 4)).unwrap();
         assert_eq!(more, component(6, &[(8, 2, 8), (5, 1, 5), (4, 1, 4)]));
         assert_eq!(remove_task(&start, 3), Err(15));
+        let late = Task::new(8, 2, 8).late(6);
+        assert_eq!(add_task(&fewer, late).unwrap().table.tasks[2], late);
+        assert_eq!(add_task(&fewer, Task::new(8, 2, 8).late(7)), Err(9));
+        assert_eq!(remove_task(&add_task(&fewer, late).unwrap(), 0).unwrap().table.tasks[1], late);
         let full = component(6, &[(8, 2, 8); 64]);
         assert_eq!(add_task(&full, Task::new(0, 0, 0)), Err(6));
     }

@@ -11,6 +11,8 @@ pub const STATED: u16 = 1;
 pub const TASK: u16 = 2;
 pub const END: u16 = 3;
 pub const ASKED: u16 = 4;
+/// A task that states its lateness.
+pub const LATE: u16 = 5;
 pub const PAIR: u16 = 6;
 
 /// A component of a sheet, with the places where its records begin and end.
@@ -45,6 +47,7 @@ pub fn length_of(kind: u16) -> Option<usize> {
         TASK => Some(16),
         END => Some(6),
         ASKED => Some(14),
+        LATE => Some(20),
         PAIR => Some(8),
         _ => None,
     }
@@ -106,7 +109,7 @@ impl Sheet {
         let next = at + fields.len();
         match kind {
             STATED | ASKED => self.component(kind, fields, at)?,
-            TASK => self.task(fields, next)?,
+            TASK | LATE => self.task(kind, fields, next)?,
             PAIR => self.pair(fields)?,
             _ => {
                 let right = number(fields, 4) as usize == self.components.len() && next == bytes.len();
@@ -138,8 +141,9 @@ impl Sheet {
         Ok(())
     }
 
-    /// A task record: behind a pair 16, with no component before it 4, one too many 6, out of range 9, in that order.
-    fn task(&mut self, fields: &[u8], end: usize) -> Result<(), Refusal> {
+    /// A task record: behind a pair 16, with no component before it 4, one too many 6, out of range 9, in that order. A lateness that is
+    /// stated as 0 is out of range: a task has one form.
+    fn task(&mut self, kind: u16, fields: &[u8], end: usize) -> Result<(), Refusal> {
         if !self.pairs.is_empty() {
             return Err(16);
         }
@@ -147,7 +151,13 @@ impl Sheet {
         if read.component.table.count == TASKS {
             return Err(6);
         }
-        let task = Task::new(time(fields, 4), time(fields, 8), time(fields, 12));
+        let mut task = Task::new(time(fields, 4), time(fields, 8), time(fields, 12));
+        if kind == LATE {
+            task.lateness = time(fields, 16);
+            if task.lateness == 0 {
+                return Err(9);
+            }
+        }
         task.check()?;
         read.component.table.tasks.push(task);
         read.component.table.count += 1;
@@ -211,11 +221,24 @@ pub fn component_bytes(component: &Component) -> Vec<u8> {
     bytes
 }
 
-/// A task's record as bytes.
+/// A task's record as bytes: its lateness is stated exactly where it is not 0.
 pub fn task_bytes(task: &Task) -> Vec<u8> {
+    if task.lateness > 0 { late_bytes(task) } else { plain_bytes(task) }
+}
+
+/// The record that leaves a task's lateness out.
+pub fn plain_bytes(task: &Task) -> Vec<u8> {
     let mut bytes = vec![];
     begin(&mut bytes, TASK);
     times(&mut bytes, &[task.period, task.work, task.deadline]);
+    bytes
+}
+
+/// The record that states a task's lateness, also 0, which no sheet may.
+pub fn late_bytes(task: &Task) -> Vec<u8> {
+    let mut bytes = vec![];
+    begin(&mut bytes, LATE);
+    times(&mut bytes, &[task.period, task.work, task.deadline, task.lateness]);
     bytes
 }
 
@@ -309,6 +332,64 @@ mod tests {
         assert_eq!(found, components);
         assert_eq!(at_place(&sheet, 1).map(|r| (r.start, r.end)), Ok((34, 68)));
         assert_eq!(at_place(&sheet, 3), Err((15, 0)));
+    }
+
+    /// Component 7 asked, Π 6, Δ 4, with (8, 2, 8, 1) between two tasks on time.
+    #[test]
+    fn lateness_is_stated_where_it_is_not_0() {
+        let table = Table::new(vec![Task::new(8, 2, 8), Task::new(8, 2, 8).late(1), Task::new(4, 1, 4)]);
+        let component = Component { number: 7, capacity: Capacity::Asked, table, ..one(7) };
+        let sheet = sheet_of(&[component.clone()]);
+        assert_eq!(sheet[14..18], [16, 0, 2, 0]);
+        assert_eq!(sheet[30..50], [20, 0, 5, 0, 8, 0, 0, 0, 2, 0, 0, 0, 8, 0, 0, 0, 1, 0, 0, 0]);
+        assert_eq!(sheet[50..54], [16, 0, 2, 0]);
+        assert_eq!(at_place(&sheet, 0), Ok(Read { start: 0, end: 66, component: component.clone() }));
+        let mut buffer = [0xa5; 68];
+        assert_eq!(write_component(&component, &mut buffer, 1), Ok(67));
+        assert_eq!(buffer[1..67], sheet[..66]);
+        assert_eq!(write_component(&component, &mut buffer, 3), Err(11));
+        let worse = Component { table: Table::new(vec![Task::new(8, 2, 8).late(7)]), ..component };
+        assert_eq!(write_component(&worse, &mut [], 9), Err(9));
+    }
+
+    #[test]
+    fn a_stated_lateness_is_at_least_1_and_leaves_room_for_the_work() {
+        for period in 0..=5 {
+            for work in 0..=5 {
+                for deadline in 0..=5 {
+                    for lateness in (0..=6).chain([u32::MAX]) {
+                        let task = Task::new(period, work, deadline).late(lateness);
+                        let sheet = [component_bytes(&Component { table: Table::new(vec![]), ..one(1) }), late_bytes(&task), end_bytes(1)].concat();
+                        let right = 1 <= work && deadline <= period && 1 <= lateness && lateness as u64 + work as u64 <= deadline as u64;
+                        assert_eq!(read(&sheet).err(), if right { None } else { Some((9, 18)) }, "{task:?}");
+                    }
+                }
+            }
+        }
+    }
+
+    #[test]
+    fn a_late_task_is_refused_where_a_task_is() {
+        let late = |lateness: u32| late_bytes(&Task::new(8, 2, 8).late(lateness));
+        for lateness in [0, 1, 7] {
+            assert_eq!(read(&[late(lateness), end_bytes(0)].concat()), Err((4, 0)));
+            let full = Component { table: Table::new(vec![Task::new(8, 2, 8).late(6); 64]), ..one(1) };
+            assert_eq!(read(&[component_bytes(&full), late(lateness), end_bytes(1)].concat()), Err((6, 18 + 64 * 20)));
+            let pair = Pair { child: 1, parent: 2 };
+            let behind = [component_bytes(&one(1)), component_bytes(&one(2)), pair_bytes(&pair), late(lateness), end_bytes(2)].concat();
+            assert_eq!(read(&behind), Err((16, 76)));
+            assert_eq!(read(&behind[..95]), Err((1, 76)));
+        }
+        let sound = [component_bytes(&one(1)), late(6), end_bytes(1)].concat();
+        assert!(read(&sound).is_ok());
+        for length in (0..=255).filter(|&length| length != 20) {
+            let mut bytes = sound.clone();
+            bytes[34] = length;
+            assert_eq!(read(&bytes), Err((3, 34)));
+        }
+        for end in 34..54 {
+            assert_eq!(read(&sound[..end]), Err((1, 34)));
+        }
     }
 
     #[test]

@@ -1,11 +1,11 @@
 //! Runs of whole trees (RULES 9, service inside components): from a legal supply of the topmost down, each child's trace is what its
 //! parent's run serves of its task. They are printed as calls that must answer that nothing misses and that each service is legal.
 
-use crate::calls::{row_text, table_text};
+use crate::calls::{row_text, walk_text};
 use crate::chance::Chance;
 use crate::nested::{self, Nest};
 use crate::numbers::{Interface, Table, Task};
-use crate::run::{self, Jobs};
+use crate::run::{self, Job, Jobs};
 use crate::tree::{as_task, Tree};
 
 /// A component of a tree: its interface with the capacity that it has, its own tasks, and its children by rising number.
@@ -89,13 +89,8 @@ fn legal(interface: &Interface, offset: u64, trace: &[u8]) -> String {
     format!("legal {} {} {} {offset} {}", interface.period, interface.capacity, interface.deadline, row_text(trace))
 }
 
-fn walk(table: &Table, jobs: &Jobs, trace: &[u8]) -> String {
-    let list = |values: &[u32]| values.iter().fold(values.len().to_string(), |text, value| format!("{text} {value}"));
-    let lists = [&jobs.tasks, &jobs.releases, &jobs.works].map(|values| list(values));
-    format!("walk {} {} {} {}", table_text(table), lists.join(" "), row_text(trace), jobs.tasks.len())
-}
-
-/// A run under way. In a dense one each task and each child comes as early and asks for as much as it may.
+/// A run under way. In a dense one each task and each child comes as early and asks for as much as it may; its own jobs are then released
+/// J slots before the first release.
 struct Run<'a> {
     c: &'a mut Chance,
     levels: &'a [Level],
@@ -124,12 +119,12 @@ impl Run<'_> {
             });
             let begins = task.and(first).and_then(|first| self.first_release(first, interface.period as u64));
             let budgets = begins.into_iter().flat_map(|begins| (begins..self.slots).step_by(interface.period as usize));
-            jobs.extend(budgets.map(|release| (release as u32, task.expect("it begins"), interface.capacity)));
+            jobs.extend(budgets.map(|slot| Job { release: slot as i64, task: task.expect("it begins"), ready: slot, work: interface.capacity }));
             inside.push((child, task, begins));
         }
         jobs.sort();
-        let jobs = Jobs { releases: jobs.iter().map(|j| j.0).collect(), tasks: jobs.iter().map(|j| j.1).collect(), works: jobs.iter().map(|j| j.2).collect() };
-        self.calls.push(walk(&table, &jobs, trace));
+        let jobs = Jobs::of(&jobs);
+        self.calls.push(walk_text(&table, &jobs, trace));
         let served = run::served(&table, &jobs, trace);
         for (child, task, begins) in inside {
             let handed: Vec<u8> = served.iter().map(|served| (task.is_some() && *served == task) as u8).collect();
@@ -153,17 +148,25 @@ impl Run<'_> {
         Some(first + later)
     }
 
-    /// A legal arrival of an own task's jobs from an instant on: release, task, work.
-    fn own_jobs(&mut self, number: u32, task: &Task, first: u64) -> Vec<(u32, u32, u32)> {
+    /// A legal arrival of an own task's jobs of which none is ready before an instant, though one may be released before it.
+    fn own_jobs(&mut self, number: u32, task: &Task, first: u64) -> Vec<Job> {
         let mut jobs = vec![];
-        let late = [0, 0, 1, 7, self.slots];
-        let mut release = first + if self.dense { 0 } else { self.c.pick(&late) };
-        while release < self.slots {
+        let lateness = task.lateness as u64;
+        let later = [0, 0, 1, 7, lateness, self.c.below(lateness + 1), self.slots];
+        let mut release = (first + if self.dense { 0 } else { self.c.pick(&later) }) as i64 - lateness as i64;
+        let manner = self.c.below(3);
+        while release < self.slots as i64 {
             let less = !self.dense && self.c.one_in(3);
             let work = if less { self.c.between(1, task.work as u64) as u32 } else { task.work };
-            jobs.push((release as u32, number, work));
+            let (earliest, latest) = (release.max(first as i64) as u64, (release + lateness as i64) as u64);
+            let ready = match manner {
+                0 => earliest,
+                1 => latest,
+                _ => self.c.between(earliest, latest),
+            };
+            jobs.push(Job { release, task: number, ready, work });
             let pause = !self.dense && self.c.one_in(3);
-            release += task.period as u64 + if pause { self.c.below(6) } else { 0 };
+            release += (task.period as u64 + if pause { self.c.below(6) } else { 0 }) as i64;
         }
         jobs
     }
@@ -172,7 +175,7 @@ impl Run<'_> {
 #[cfg(test)]
 mod tests {
     use super::*;
-    use crate::calls::{answer, parse};
+    use crate::calls::{answer, parse, Call};
     use crate::judge::{smallest, verdict, Verdict};
     use crate::nested::component;
     use crate::numbers::{Capacity, Component};
@@ -247,6 +250,38 @@ mod tests {
             }
         });
         assert!(found > 40, "{found}");
+    }
+
+    /// Trees in which each capacity is the smallest for jobs that are ready at their release.
+    #[test]
+    fn trees_judged_as_if_on_time_are_found_out() {
+        let found = found_out(300, |nest| {
+            let punctual = |component: &Component| {
+                let tasks = component.table.tasks.iter().map(|task| task.late(0)).collect();
+                Component { capacity: Capacity::Asked, table: Table::new(tasks), ..component.clone() }
+            };
+            let tree = Tree::new(nest.components.iter().map(punctual).collect(), &nest.pairs);
+            for (place, component) in nest.components.iter_mut().enumerate() {
+                component.capacity = Capacity::Stated(tree.judged(place).capacity().unwrap());
+            }
+        });
+        assert!(found > 20, "{found}");
+    }
+
+    /// Jobs that are released before slot 0, and before their component's first release where that is later, are among those played.
+    #[test]
+    fn jobs_are_released_before_they_may_be_ready() {
+        let mut c = Chance::new(15);
+        let (mut before_0, mut late, mut behind_the_end) = (0, 0, 0);
+        for call in (0..300).flat_map(|_| calls(&mut c)) {
+            if let Call::Walk(_, jobs, row, _) = parse(&call).unwrap() {
+                let all: Vec<Job> = (0..jobs.tasks.len()).map(|place| jobs.job(place)).collect();
+                before_0 += all.iter().any(|job| job.release < 0) as u32;
+                late += all.iter().any(|job| job.ready as i64 > job.release.max(0)) as u32;
+                behind_the_end += all.iter().any(|job| job.ready >= row.len() as u64) as u32;
+            }
+        }
+        assert!(before_0 > 50 && late > 50 && behind_the_end > 20, "{before_0} {late} {behind_the_end}");
     }
 
     /// The levels with the capacities stated, whatever the tree says.

@@ -2,8 +2,9 @@
 //!
 //! `FORMS` has the lines that there are. White space of any kind parts the words, `#` begins a comment, and a line of
 //! neither is passed over. The bytes are those of the records as written down: whether they make a sheet is the reader's
-//! to say. A number has one spelling (digits, no sign, no zero in front), so that text, bytes and text again is the same
-//! but for comments and white space.
+//! to say. So a fourth number on a task's line becomes the record that states its lateness, also where it is 0, which the
+//! reader refuses. A number has one spelling (digits, no sign, no zero in front), so that text, bytes and text again is
+//! the same but for comments and white space.
 
 use crate::numbers::Refusal;
 use crate::sheet;
@@ -26,6 +27,7 @@ const FORMS: &[Form] = &[
     Form { kind: sheet::STATED, parts: &[Word("component"), Number("NUMBER"), Word("stated"), Time("Π"), Time("Θ"), Time("Δ")] },
     Form { kind: sheet::ASKED, parts: &[Word("component"), Number("NUMBER"), Word("asked"), Time("Π"), Time("Δ")] },
     Form { kind: sheet::TASK, parts: &[Word("task"), Time("T"), Time("C"), Time("D")] },
+    Form { kind: sheet::LATE, parts: &[Word("task"), Time("T"), Time("C"), Time("D"), Time("J")] },
     Form { kind: sheet::PAIR, parts: &[Word("pair"), Number("CHILD"), Number("PARENT")] },
     Form { kind: sheet::END, parts: &[Word("end"), Number("COUNT")] },
 ];
@@ -255,6 +257,17 @@ mod tests {
     }
 
     #[test]
+    fn a_fourth_number_states_the_lateness_whatever_it_is() {
+        let late = "component 1 stated 6 2 4\ntask 8 2 8 1\ntask 8 2 8\ntask 8 2 8 0\ntask 8 2 8 4294967295\nend 1\n";
+        let sheet = bytes(late).unwrap();
+        assert_eq!(sheet[18..38], [20, 0, 5, 0, 8, 0, 0, 0, 2, 0, 0, 0, 8, 0, 0, 0, 1, 0, 0, 0]);
+        assert_eq!(sheet[54..58], [20, 0, 5, 0]);
+        assert_eq!(text(&sheet).unwrap(), late);
+        assert_eq!(sheet::read(&sheet), Err((9, 54)));
+        assert_eq!(written(late.as_bytes()).unwrap().line(54), Ok("4: task 8 2 8 0".into()));
+    }
+
+    #[test]
     fn white_space_and_comments_are_taken() {
         let loose = "\u{feff}# note\r\n\r\n  # more\r\n\tcomponent  1\tstated 6 2 4  # why\r\ntask\u{a0}8 2 8# task 9\r\n component 2 asked 6 4\n\u{c}\nend 2";
         assert_eq!(bytes(loose).unwrap(), bytes(SMALL).unwrap());
@@ -263,7 +276,9 @@ mod tests {
 
     #[test]
     fn a_wrong_line_is_named_and_told_what_it_needs() {
-        assert_eq!(wrong("# note\n\ntask 8 2\n"), ["3: `task 8 2`: task needs T C D: `task T C D`"]);
+        assert_eq!(wrong("# note\n\ntask 8 2\n"), ["3: `task 8 2`: a task is `task T C D` or `task T C D J`"]);
+        assert_eq!(wrong("task 8 2 8 1 0"), ["1: `task 8 2 8 1 0`: a task is `task T C D` or `task T C D J`"]);
+        assert_eq!(wrong("task 8 2 8 -1"), ["1: `task 8 2 8 -1`: J is `-1`, which is not a number of digits alone"]);
         assert_eq!(
             wrong("component 1 stated 6 2  # short"),
             ["1: `component 1 stated 6 2 # short`: stated needs Π Θ Δ: `component NUMBER stated Π Θ Δ`"]

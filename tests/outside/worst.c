@@ -27,9 +27,30 @@ static double milliseconds;
 static uint8_t *stack, *frame;
 static uint8_t replies[JOUGSILVER_ALL_LENGTH(JOUGSILVER_MOST_COMPONENTS)];
 
+/* A task that states its lateness, or where that is 0 one that doesn't. */
+static void late_task(uint32_t period, uint32_t work, uint32_t deadline, uint32_t lateness) {
+    if (lateness == 0) {
+        task(period, work, deadline);
+        return;
+    }
+    put(20, 2);
+    put(5, 2);
+    put(period, 4);
+    put(work, 4);
+    put(deadline, 4);
+    put(lateness, 4);
+}
+
 static void asked(void) {
     component(1, LIMIT, ASKED, LIMIT);
     in_turn();
+    end(1);
+}
+
+/* The same demand from tasks with a deadline of 64 slots each, whose latenesses put their steps where those were. */
+static void asked_late(void) {
+    component(1, LIMIT, ASKED, LIMIT);
+    for (uint32_t i = 0; i < TASKS; i++) late_task(TASKS, 1, TASKS, TASKS - 1 - i * 37 % TASKS);
     end(1);
 }
 
@@ -141,6 +162,7 @@ int main(int argc, char **argv) {
     over |= measure("judge, stated", stated, judge, runs);
     over |= measure("judge, all tasks due at each instant", at_once, judge, runs);
     over |= measure("judge, asked", asked, judge, runs);
+    over |= measure("judge, asked, tasks that are late", asked_late, judge, runs);
     over |= measure("judge, asked, last of 256 components", last_of_many, judge, runs);
     over |= measure("judge, asked, top of a chain of 256", top_of_chain, judge, runs);
     over |= measure("judge_all, a chain of 256", chain, judge_all, runs);

@@ -1,5 +1,5 @@
--- Laws of demand. As D ≤ T, the jobs of a task due by t number ⌊(t + T − D)/T⌋ without cases; the two bounds of that quotient fix the number, and
--- every law of one task checks them. The laws of a table add up those of its tasks.
+-- Laws of demand. As the span D − J of a task is at most T, its jobs due by t number ⌊(t + T − span)/T⌋ without cases; the two bounds of that
+-- quotient fix the number, and every law of one task checks them. The laws of a table add up those of its tasks.
 use Prim.Native.Nat.{ℕ, zero, suc, _+_, _-_, _*_, _/_, _≤_, _<_, _∣_, zero-le, suc-le-suc}
 use mathlib.Core.Path.{_≡_, refl, sym, ap, _∙_}
 use mathlib.Core.Bool.{Bool, true, false, cond}
@@ -12,47 +12,47 @@ use native.Mathlib.Omega.{arith}
 use Rattle.budget.specs.declared.task.Task.{Task}
 use Rattle.budget.specs.Demand.{demand, jobsBy}
 use Rattle.budget.specs.Limits.{limit}
-use Rattle.budget.specs.Task.{T, C, D, noTask, validTasks}
-use Rattle.budget.proofs.Valid.{ValidTask, valid-head, valid-tail}
+use Rattle.budget.specs.Task.{T, C, noTask, span, validTasks}
+use Rattle.budget.proofs.Valid.{ValidTask, span-fits, span-within, valid-head, valid-tail}
 
 module _ (k : Task) (v : ValidTask k) where
   recurring : 0 < T k
-  recurring = le-trans (v .works) (le-trans (v .fits) (v .within))
+  recurring = le-trans (v .works) (le-trans (span-fits k v) (span-within k v))
 
-  quotient : (b : Bool) (t : ℕ) → leb (D k) t ≡ b → cond b ((t - D k) / T k + 1) 0 ≡ (t + T k - D k) / T k
+  quotient : (b : Bool) (t : ℕ) → leb (span k) t ≡ b → cond b ((t - span k) / T k + 1) 0 ≡ (t + T k - span k) / T k
   quotient true t e =
-      let h : D k ≤ t = leb-true _ _ e in
-      let shifted : t + T k - D k ≡ t - D k + T k = omega arith in
-      rw shifted (sym (add-div-right (t - D k) recurring))
+      let h : span k ≤ t = leb-true _ _ e in
+      let shifted : t + T k - span k ≡ t - span k + T k = omega arith in
+      rw shifted (sym (add-div-right (t - span k) recurring))
   quotient false t e =
-      let h : t < D k = leb-false _ _ e in
-      sym (div-eq-of-lt (omega (arith, v .within)))
+      let h : t < span k = leb-false _ _ e in
+      sym (div-eq-of-lt (omega (arith, span-within k v)))
 
-  pub jobs-by-quotient : (t : ℕ) → jobsBy k t ≡ (t + T k - D k) / T k
+  pub jobs-by-quotient : (t : ℕ) → jobsBy k t ≡ (t + T k - span k) / T k
   unfolding jobsBy
   jobs-by-quotient t = quotient _ t refl
 
   -- the last of the jobs due by t is due by t
-  pub jobs-due : (t : ℕ) → jobsBy k t * T k + D k ≤ t + T k
-  jobs-due t = rw (jobs-by-quotient t) (omega (arith, div-mul-le-self (t + T k - D k) (T k), v .within))
+  pub jobs-due : (t : ℕ) → jobsBy k t * T k + span k ≤ t + T k
+  jobs-due t = rw (jobs-by-quotient t) (omega (arith, div-mul-le-self (t + T k - span k) (T k), span-within k v))
 
   -- the next deadline lies after t
-  pub jobs-next-after : (t : ℕ) → t < D k + jobsBy k t * T k
-  jobs-next-after t = rw (jobs-by-quotient t) (omega (arith, lt-div-mul-add {a = t + T k - D k} recurring, v .within))
+  pub jobs-next-after : (t : ℕ) → t < span k + jobsBy k t * T k
+  jobs-next-after t = rw (jobs-by-quotient t) (omega (arith, lt-div-mul-add {a = t + T k - span k} recurring, span-within k v))
 
   -- the two bounds fix the number of jobs
-  pub jobs-fixed : (t n : ℕ) → n * T k + D k ≤ t + T k → t < D k + n * T k → jobsBy k t ≡ n
-  jobs-fixed t n low high = jobs-by-quotient t ∙ div-eq-of-lt-le (T k) (omega arith) (omega (arith, v .within))
+  pub jobs-fixed : (t n : ℕ) → n * T k + span k ≤ t + T k → t < span k + n * T k → jobsBy k t ≡ n
+  jobs-fixed t n low high = jobs-by-quotient t ∙ div-eq-of-lt-le (T k) (omega arith) (omega (arith, span-within k v))
 
   -- the number stays until that deadline, and is one more there: the step instants of a task
-  pub jobs-same-until : (t u : ℕ) → t ≤ u → u < D k + jobsBy k t * T k → jobsBy k u ≡ jobsBy k t
+  pub jobs-same-until : (t u : ℕ) → t ≤ u → u < span k + jobsBy k t * T k → jobsBy k u ≡ jobsBy k t
   jobs-same-until t u h below = jobs-fixed u (jobsBy k t) (omega (arith, jobs-due t)) below
 
-  pub jobs-at-next : (t : ℕ) → jobsBy k (D k + jobsBy k t * T k) ≡ suc (jobsBy k t)
+  pub jobs-at-next : (t : ℕ) → jobsBy k (span k + jobsBy k t * T k) ≡ suc (jobsBy k t)
   jobs-at-next t = jobs-fixed _ (suc (jobsBy k t)) (omega arith) (omega (arith, recurring))
 
   pub jobs-zero : jobsBy k 0 ≡ 0
-  jobs-zero = jobs-fixed 0 0 (omega (arith, v .within)) (omega (arith, v .works, v .fits))
+  jobs-zero = jobs-fixed 0 0 (omega (arith, span-within k v)) (omega (arith, v .works, span-fits k v))
 
   pub jobs-mono : (a b : ℕ) → a ≤ b → jobsBy k a ≤ jobsBy k b
   jobs-mono a b h = le-of-suc-le-suc (lt-of-mul-lt-mul-right (T k) (omega (arith, jobs-due a, jobs-next-after b)))
@@ -61,12 +61,12 @@ module _ (k : Task) (v : ValidTask k) where
   pub jobs-shift : (L : ℕ) → T k ∣ L → (t : ℕ) → jobsBy k (t + L) ≡ jobsBy k t + jobsBy k L
   jobs-shift L divides t =
       let e = div-mul-cancel (T k) divides in
-      let whole : jobsBy k L ≡ L / T k = jobs-fixed L _ (omega (arith, e, v .within)) (omega (arith, e, v .works, v .fits)) in
+      let whole : jobsBy k L ≡ L / T k = jobs-fixed L _ (omega (arith, e, span-within k v)) (omega (arith, e, v .works, span-fits k v)) in
       rw whole (jobs-fixed (t + L) (jobsBy k t + L / T k) (omega (arith, e, jobs-due t)) (omega (arith, e, jobs-next-after t)))
 
   -- the work of the jobs due by t is at most one period more than t, as C ≤ T
   pub jobs-work : (t : ℕ) → jobsBy k t * C k ≤ t + limit
-  jobs-work t = omega (arith, mul-le-mul-left (jobsBy k t) (le-trans (v .fits) (v .within)), jobs-due t, v .bounded)
+  jobs-work t = omega (arith, mul-le-mul-left (jobsBy k t) (le-trans (span-fits k v) (span-within k v)), jobs-due t, v .bounded)
 
 pub demand-zero : (ks : List Task) → validTasks ks ≡ true → demand ks 0 ≡ 0
 unfolding demand

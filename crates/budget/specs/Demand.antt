@@ -1,4 +1,4 @@
--- Demand at t: the most work that can be released and fall due within t slots (RULES 4).
+-- Demand at t: the most work that can become ready and fall due within t slots (RULES 4).
 use Prim.Native.Nat.{ℕ, _+_, _-_, _*_, _/_}
 use mathlib.Core.Bool.{cond}
 use mathlib.Core.List.{List, [], _∷_}
@@ -8,11 +8,11 @@ use Rattle.budget.specs.declared.quantity.Amount.{Amount}
 use Rattle.budget.specs.declared.task.Table.{Table}
 use Rattle.budget.specs.Limits.{limit}
 use Rattle.budget.specs.Refusal as refusal
-use Rattle.budget.specs.Task.{T, C, D, tasksOf, tableRefusal}
+use Rattle.budget.specs.Task.{T, C, span, tasksOf, tableRefusal}
 
--- how many jobs of one task fall due by t, the first at D and one after every T; none before D
+-- how many jobs of one task fall due by t, where each is ready as late as it may be: the first at D − J and one after every T; none before D − J
 unfoldable pub jobsBy : Task → ℕ → ℕ
-jobsBy k t = cond (leb (D k) t) ((t - D k) / T k + 1) 0
+jobsBy k t = cond (leb (span k) t) ((t - span k) / T k + 1) 0
 
 unfoldable pub demand : List Task → ℕ → ℕ
 demand [] t = 0

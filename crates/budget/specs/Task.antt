@@ -1,4 +1,4 @@
--- A task (T, C, D) and a table of tasks (RULES 2).
+-- A task (T, C, D, J) and a table of tasks (RULES 2).
 use Prim.Native.Nat.{ℕ, _+_, _-_}
 use mathlib.Core.Bool.{Bool, true, cond, _&&_}
 use mathlib.Core.List.{List, [], _∷_, _++_}
@@ -9,7 +9,7 @@ use Rattle.budget.specs.declared.task.Table.{Table}
 use Rattle.budget.specs.Limits.{limit, most-tasks}
 use Rattle.budget.specs.Refusal as refusal
 
--- T, C and D of a task
+-- T, C, D and J of a task
 abbrev pub T : Task → ℕ
 T k = k .period .0
 
@@ -19,9 +19,17 @@ C k = k .work .0
 abbrev pub D : Task → ℕ
 D k = k .deadline .0
 
--- the range of a task: a work of at least 1, no longer than the deadline, which is no longer than the period
+abbrev pub J : Task → ℕ
+J k = k .lateness .0
+
+-- the slots from the latest readiness of a job to its deadline: J of the D slots behind its release may pass before it can be served
+abbrev pub span : Task → ℕ
+span k = D k - J k
+
+-- the range of a task: a work of at least 1, no longer than the deadline, which is no longer than the period; and a lateness that leaves room
+-- for the work before the deadline
 unfoldable pub validTask : Task → Bool
-validTask k = leb 1 (C k) && (leb (C k) (D k) && (leb (D k) (T k) && leb (T k) limit))
+validTask k = leb 1 (C k) && (leb (C k) (D k) && (leb (D k) (T k) && (leb (T k) limit && leb (J k) (D k - C k))))
 
 unfoldable pub taskRefusal : Task → ℕ
 taskRefusal k = cond (validTask k) refusal.none refusal.range
@@ -30,9 +38,9 @@ unfoldable pub validTasks : List Task → Bool
 validTasks [] = true
 validTasks (k ∷ ks) = validTask k && validTasks ks
 
--- the task (0, 0, 0), which fills the places from the count on
+-- the task (0, 0, 0, 0), which fills the places from the count on
 abbrev pub noTask : Task
-noTask = record { period = record { 0 = 0 }; work = record { 0 = 0 }; deadline = record { 0 = 0 } }
+noTask = record { period = record { 0 = 0 }; work = record { 0 = 0 }; deadline = record { 0 = 0 }; lateness = record { 0 = 0 } }
 
 -- a table's tasks are its first `count` places; what stands behind them means nothing
 unfoldable pub tasksOf : Table → List Task

@@ -8,6 +8,7 @@ use crate::refusal;
 use crate::task::Table;
 use crate::task::Task;
 use crate::task::check_table;
+use crate::task::span;
 ghost use mathlib.Core.Path.{_≡_};
 ghost use mathlib.Core.Bool.{true};
 ghost use Prim.Native.Nat.{_*_, _≤_};
@@ -15,18 +16,18 @@ ghost use Rattle.budget.specs.Demand as Demand;
 ghost use Rattle.budget.specs.Limits.{limit, most-tasks};
 ghost use Rattle.budget.specs.Task.{C, tasksOf, validTask, validTasks};
 
-// The units of a task's jobs that fall due by `at`. Before its first deadline there are none.
+// The units of a task's jobs that fall due by `at`, where each is ready as late as it may be. Before the first deadline there are none.
 fn units_of(task: Task, at: u32) -> u32
     requires { ⌜ (validTask task ≡ true) × (at ≤ limit) ⌝ }
     ensures { λ r. ⌜ r ≡ Demand.jobsBy task at * C task ⌝ }
 {
     let period = task.period.0;
     let work = task.work.0;
-    let deadline = task.deadline.0;
-    if at < deadline {
+    let first = span(task);
+    if at < first {
         return 0;
     }
-    ((at - deadline) / period + 1) * work
+    ((at - first) / period + 1) * work
 }
 
 // The units of all tasks' jobs that fall due by `at`.

@@ -8,13 +8,15 @@ ghost use Prim.Native.Nat.{_≤_};
 ghost use Rattle.budget.specs.Limits.{most-tasks};
 ghost use Rattle.budget.specs.Refusal as refusal;
 ghost use mathlib.Core.List.{[]};
-ghost use Rattle.budget.specs.Task.{taskRefusal, tableRefusal, tasksOf, tableOf, appended, validTasks};
+ghost use Rattle.budget.specs.Task.{span, taskRefusal, tableRefusal, tasksOf, tableOf, appended, validTasks};
 
-// A sporadic task: period T, work C, deadline D.
+// A sporadic task: period T, work C, deadline D, lateness J: a job may become ready up to J slots after its release, and its
+// deadline counts from its release all the same.
 pub struct Task {
     pub period: Time,
     pub work: Units,
     pub deadline: Time,
+    pub lateness: Time,
 }
 
 // A task table: the tasks are the first `count` places; nothing reads the places behind them.
@@ -28,13 +30,14 @@ impl Table {
     pub const MOST: usize = 64;
 }
 
-// The refusal of a task: 1 ≤ C ≤ D ≤ T ≤ the limit, or 9.
+// The refusal of a task: 1 ≤ C ≤ D ≤ T ≤ the limit and J ≤ D − C, or 9.
 pub fn check_task(task: Task) -> u16
     ensures { λ r. ⌜ r ≡ taskRefusal task ⌝ }
 {
     let period = task.period.0;
     let work = task.work.0;
     let deadline = task.deadline.0;
+    let lateness = task.lateness.0;
     if work < 1 {
         return refusal::RANGE;
     }
@@ -47,7 +50,22 @@ pub fn check_task(task: Task) -> u16
     if Time::LIMIT < period {
         return refusal::RANGE;
     }
+    if deadline - work < lateness {
+        return refusal::RANGE;
+    }
     refusal::NONE
+}
+
+// The slots from the latest readiness of a job to its deadline: D − J, or 0 in a place that holds no task and may hold anything.
+pub fn span(task: Task) -> u32
+    ensures { λ r. ⌜ r ≡ span task ⌝ }
+{
+    let deadline = task.deadline.0;
+    let lateness = task.lateness.0;
+    if deadline < lateness {
+        return 0;
+    }
+    deadline - lateness
 }
 
 // The refusal of the tasks of a table that has no more than there are places.
@@ -89,6 +107,7 @@ pub fn no_tasks() -> Table
             period: Time(0),
             work: Units(0),
             deadline: Time(0),
+            lateness: Time(0),
         }; 64],
     }
 }

@@ -38,13 +38,15 @@ pub fn read_task(line: &[u8], start: usize) -> GivenTask {
     let period = words::read_long(line, start);
     let work = words::read_long(line, period.at);
     let deadline = words::read_long(line, work.at);
+    let lateness = words::read_long(line, deadline.at);
     GivenTask {
         value: Task {
             period: Time(period.value),
             work: Units(work.value),
             deadline: Time(deadline.value),
+            lateness: Time(lateness.value),
         },
-        at: deadline.at,
+        at: lateness.at,
     }
 }
 
@@ -72,7 +74,7 @@ fn tasks_given(count: u64) -> usize
     count as usize
 }
 
-// A table; its places from the count on hold what is no task.
+// A table; its places from the count on hold what is no task, with numbers as large as can be, so that nothing may count with them.
 pub fn read_table(line: &[u8], start: usize) -> GivenTable {
     let count = words::read_number(line, start);
     let given = tasks_given(count.value);
@@ -80,6 +82,7 @@ pub fn read_table(line: &[u8], start: usize) -> GivenTable {
         period: Time(9),
         work: Units(0),
         deadline: Time(4294967295),
+        lateness: Time(4294967295),
     }; 64];
     let mut at = count.at;
     let mut i: usize = 0;

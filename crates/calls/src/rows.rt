@@ -1,5 +1,8 @@
 // Rows of bytes and lists of numbers, read into what the caller lends.
 use crate::words;
+ghost use Prim.Native.Nat.{_≤_};
+ghost use mathlib.Core.Path.{_≡_};
+ghost use lib.ListN.{length, take};
 ghost use Rattle.io.specs.Counts.{Counts};
 
 // How much of a lent row was read into, and the place in the line after it.
@@ -62,6 +65,30 @@ pub fn read_list(line: &[u8], start: usize, list: &mut [u32]) -> Row
         }
         let read = words::read_long(line, at);
         list[filled] = read.value;
+        at = read.at;
+        filled += 1;
+    }
+    Row {
+        length: filled,
+        at: at,
+    }
+}
+
+// Reads signed numbers likewise. `Counts` speaks of unsigned ones, so the same is written out for these.
+pub fn read_signed_list(line: &[u8], start: usize, list: &mut [i32]) -> Row
+    ensures { λ r. ⌜ (r .length ≤ length (now (list .exit))) × (r .length ≡ length (take (r .length) (now (list .exit)))) ⌝ }
+{
+    let count = words::read_number(line, start);
+    let given = count.value as usize;
+    let mut at = count.at;
+    let mut filled: usize = 0;
+    while filled < list.len() {
+        if filled >= given {
+            break;
+        }
+        let read = words::read_signed(line, at);
+        let value = read.value;
+        list[filled] = value;
         at = read.at;
         filled += 1;
     }

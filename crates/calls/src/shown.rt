@@ -8,7 +8,8 @@ use budget::task::Task;
 fn put_task(out: &mut [u8], start: usize, task: Task) -> usize {
     let at = print::put_long(out, start, task.period.0);
     let at = print::put_long(out, at, task.work.0);
-    print::put_long(out, at, task.deadline.0)
+    let at = print::put_long(out, at, task.deadline.0);
+    print::put_long(out, at, task.lateness.0)
 }
 
 fn put_table(out: &mut [u8], start: usize, table: Table) -> usize {
@@ -33,10 +34,13 @@ fn is_zero(task: Task) -> bool {
     if task.work.0 != 0 {
         return false;
     }
-    task.deadline.0 == 0
+    if task.deadline.0 != 0 {
+        return false;
+    }
+    task.lateness.0 == 0
 }
 
-// Whether every task place from the count on is (0, 0, 0).
+// Whether every task place from the count on is (0, 0, 0, 0).
 fn rest_is_zero(table: Table) -> bool {
     let tasks = table.tasks;
     let mut i = table.count;
@@ -56,7 +60,7 @@ fn put_capacity(out: &mut [u8], start: usize, capacity: Capacity) -> usize {
     }
 }
 
-// Puts `zero` if every task place from the count on is (0, 0, 0), else `filled`.
+// Puts `zero` if every task place from the count on is (0, 0, 0, 0), else `filled`.
 fn put_rest(out: &mut [u8], start: usize, table: Table) -> usize {
     if rest_is_zero(table) {
         return print::put_text(out, start, b" zero");

@@ -12,6 +12,12 @@ pub struct Long {
     pub at: usize,
 }
 
+// A signed number of 32 bits, read likewise.
+pub struct Signed {
+    pub value: i32,
+    pub at: usize,
+}
+
 // The place after a word and the space that follows it.
 pub fn after_word(line: &[u8], start: usize) -> usize {
     let mut at = start;
@@ -92,6 +98,44 @@ pub fn read_long(line: &[u8], start: usize) -> Long {
     }
     Long {
         value: value as u32,
+        at: read.at,
+    }
+}
+
+// A magnitude as a signed number, or the largest where it is larger.
+fn positive(magnitude: u32) -> i32 {
+    if magnitude > 2147483647 {
+        return i32::MAX;
+    }
+    magnitude as i32
+}
+
+// The negative number of a magnitude, or the least where it is less: the complement of n is −(n + 1), so the least needs no case of its own.
+fn negative(magnitude: u32) -> i32 {
+    if magnitude == 0 {
+        return 0;
+    }
+    !positive(magnitude - 1)
+}
+
+// The signed number that begins at a place, or the nearest of 32 bits where it is out of their range.
+pub fn read_signed(line: &[u8], start: usize) -> Signed {
+    if start >= line.len() {
+        return Signed {
+            value: 0,
+            at: start,
+        };
+    }
+    if line[start] == b'-' {
+        let read = read_long(line, start + 1);
+        return Signed {
+            value: negative(read.value),
+            at: read.at,
+        };
+    }
+    let read = read_long(line, start);
+    Signed {
+        value: positive(read.value),
         at: read.at,
     }
 }

@@ -51,7 +51,8 @@ fn put_walked(out: &mut [u8], answered: walk::Walked, left: &[u32]) -> usize {
 fn walk_left(
     table: Table,
     tasks: &[u32],
-    releases: &[u32],
+    releases: &[i32],
+    ready: &[u32],
     works: &[u32],
     trace: &[u8],
     length: u64,
@@ -62,6 +63,7 @@ fn walk_left(
         table,
         tasks,
         releases,
+        ready,
         works,
         trace,
         &mut left,
@@ -73,7 +75,8 @@ fn walk_left(
 fn walk_part(
     table: Table,
     tasks: &[u32],
-    releases: &[u32],
+    releases: &[i32],
+    ready: &[u32],
     works: &[u32],
     trace: &[u8],
     left: &mut [u32],
@@ -84,7 +87,7 @@ fn walk_part(
         return 0;
     }
     let part = &mut left[0..length];
-    let answered = walk::walk(table, tasks, releases, works, trace, part);
+    let answered = walk::walk(table, tasks, releases, ready, works, trace, part);
     put_walked(out, answered, part)
 }
 
@@ -93,11 +96,14 @@ fn walk(line: &[u8], at: usize, out: &mut [u8]) -> usize {
     let mut tasks = [0u32; 2048];
     let numbered = rows::read_list(line, given.at, &mut tasks);
     let tasks_end = numbered.length;
-    let mut releases = [0u32; 2048];
-    let released = rows::read_list(line, numbered.at, &mut releases);
+    let mut releases = [0i32; 2048];
+    let released = rows::read_signed_list(line, numbered.at, &mut releases);
     let releases_end = released.length;
+    let mut ready = [0u32; 2048];
+    let readied = rows::read_list(line, released.at, &mut ready);
+    let ready_end = readied.length;
     let mut works = [0u32; 2048];
-    let worked = rows::read_list(line, released.at, &mut works);
+    let worked = rows::read_list(line, readied.at, &mut works);
     let works_end = worked.length;
     let mut bytes = [0u8; 65600];
     let row = rows::read_row(line, worked.at, &mut bytes);
@@ -107,6 +113,7 @@ fn walk(line: &[u8], at: usize, out: &mut [u8]) -> usize {
         given.value,
         &tasks[..tasks_end],
         &releases[..releases_end],
+        &ready[..ready_end],
         &works[..works_end],
         &bytes[..trace_end],
         length.value,

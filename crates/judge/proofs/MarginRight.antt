@@ -17,11 +17,11 @@ use Rattle.budget.specs.CommonPeriod.{commonPeriod}
 use Rattle.budget.specs.Demand.{demand, jobsBy}
 use Rattle.budget.specs.Interface.{Π}
 use Rattle.budget.specs.Supply.{supply}
-use Rattle.budget.specs.Task.{T, D, validTasks}
+use Rattle.budget.specs.Task.{T, span, validTasks}
 use Rattle.budget.proofs.CommonPeriodLaws.{common-positive, common-divides-at}
 use Rattle.budget.proofs.DemandLaws.{demand-zero, demand-shift, jobs-fixed, jobs-mono}
 use Rattle.budget.proofs.SupplyLaws.{supply-mono, supply-add}
-use Rattle.budget.proofs.Valid.{ValidInterface, valid-head}
+use Rattle.budget.proofs.Valid.{ValidInterface, span-fits, span-within, valid-head}
 use Rattle.judge.specs.declared.answer.Margined.{Margined}
 use Rattle.judge.specs.declared.answer.Margined.the-variants as Variant
 use Rattle.judge.specs.Margin.{Step, Tightest, tightInstant, marginAt, marginOn, marginOf}
@@ -148,9 +148,9 @@ module _ (k : Task) (ks : List Task) (v : validTasks (k ∷ ks) ≡ true) (i : I
   demand-some =
       let t = valid-head k ks v in
       let period-some : 1 ≤ Π i = omega (arith, w .some, w .within) in
-      let first : jobsBy k (D k) ≡ 1 = jobs-fixed k t (D k) 1 (omega arith) (omega (arith, t .works, t .fits, t .within)) in
+      let first : jobsBy k (span k) ≡ 1 = jobs-fixed k t (span k) 1 (omega arith) (omega (arith, t .works, span-fits k t, span-within k t)) in
       let within : T k ≤ commonPeriod (Π i) (k ∷ ks) = le-of-dvd (common-positive (Π i) (k ∷ ks) period-some v) (common-divides-at (Π i) (k ∷ ks) period-some v 0 (omega arith)) in
-      let job : 1 ≤ jobsBy k (commonPeriod (Π i) (k ∷ ks)) = omega (arith, first, jobs-mono k t (D k) (commonPeriod (Π i) (k ∷ ks)) (omega (arith, t .within))) in
+      let job : 1 ≤ jobsBy k (commonPeriod (Π i) (k ∷ ks)) = omega (arith, first, jobs-mono k t (span k) (commonPeriod (Π i) (k ∷ ks)) (omega (arith, span-within k t))) in
       omega (arith, mul-le-mul job (t .works))
 
   pub tasks-have-margin : (marginOn (k ∷ ks) i (commonPeriod (Π i) (k ∷ ks)) ≡ Variant.None) → ⊥

@@ -16,7 +16,7 @@ use Rattle.budget.specs.declared.task.Table.{Table}
 use Rattle.budget.specs.declared.task.Task.{Task}
 use Rattle.budget.specs.Demand.{demand, jobsBy}
 use Rattle.budget.specs.Limits.{limit, most-tasks}
-use Rattle.budget.specs.Task.{T, C, D, noTask, validTasks, tasksOf}
+use Rattle.budget.specs.Task.{T, C, noTask, span, validTasks, tasksOf}
 use Rattle.budget.proofs.DemandLaws.{jobs-next-after, jobs-same-until, jobs-at-next, jobs-zero, demand-append, demand-zero, demand-bound}
 use Rattle.budget.proofs.Places.{places}
 use Rattle.budget.proofs.Valid.{ValidTask, valid-at}
@@ -25,7 +25,7 @@ use Rattle.judge.specs.inner.Steps.{Column, Columned, Passed, Steppable,
 
 -- the first deadline of a task after an instant
 abbrev pub nextDeadline : Task → ℕ → ℕ
-nextDeadline k p = D k + jobsBy k p * T k
+nextDeadline k p = span k + jobsBy k p * T k
 
 -- the column holds that number of each task
 abbrev pub Holds : (Task → ℕ) → List Task → List ℕ → Type 0
@@ -96,7 +96,7 @@ pub record Moved (ks : List Task) (after : List ℕ) (at sum next : ℕ) : Type 
   pub ready : Ready ks after next sum
 
 module _ (ks : List Task) (v : validTasks ks ≡ true) where
-  pub due-start : (due : List ℕ) → Holds (λ k. D k) ks due → Due ks due 0
+  pub due-start : (due : List ℕ) → Holds (λ k. span k) ks due → Due ks due 0
   due-start due h j l =
       h j l ∙ omega (arith, ap (λ (x : ℕ). x * T (getD ks j noTask)) (jobs-zero (getD ks j noTask) (valid-at ks v j l)))
 
@@ -110,7 +110,7 @@ module _ (ks : List Task) (v : validTasks ks ≡ true) where
 
   due-still : (due : List ℕ) (p u : ℕ) → Due ks due p → p ≤ u → ((j : ℕ) → j < length ks → u < getD due j 0) → Due ks due u
   due-still due p u d h below j l =
-      d j l ∙ ap (λ (n : ℕ). D (getD ks j noTask) + n * T (getD ks j noTask)) (sym (jobs-still due p u d h below j l))
+      d j l ∙ ap (λ (n : ℕ). span (getD ks j noTask) + n * T (getD ks j noTask)) (sym (jobs-still due p u d h below j l))
 
   -- the first n tasks of the table: their demand at the next instant is that of now and the work due there
   demand-first : (work due : List ℕ) (p : ℕ) → Holds (λ k. C k) ks work → Due ks due p → (n : ℕ) → n ≤ length ks
@@ -135,7 +135,7 @@ module _ (ks : List Task) (v : validTasks ks ≡ true) where
       (demand-first work due p w d (length ks) (omega arith))
 
   -- a run begins at instant 1 with no demand before it
-  pub ready-start : (due : List ℕ) → length due ≡ most-tasks → Holds (λ k. D k) ks due → Ready ks due 1 0
+  pub ready-start : (due : List ℕ) → length due ≡ most-tasks → Holds (λ k. span k) ks due → Ready ks due 1 0
   ready-start due long h = record { before = 0; is = refl; long = long; deadlines = due-start due h; known = sym (demand-zero ks v) }
 
   module _ (period work due : List ℕ) (periods : Holds (λ k. T k) ks period) (works : Holds (λ k. C k) ks work) (at asked : ℕ) (r : Ready ks due at asked) where
@@ -216,7 +216,7 @@ module _ (table : Table) (few : table .count ≤ most-tasks) (v : validTasks (ta
         count = counted table few long;
         periods = column-holds (λ k. T k) table (r .period) (c .period) few;
         works = column-holds (λ k. C k) table (r .work) (c .work) few;
-        ready = ready-start (tasksOf table) v (r .due) (c .due .long) (column-holds (λ k. D k) table (r .due) (c .due) few);
+        ready = ready-start (tasksOf table) v (r .due) (c .due .long) (column-holds (λ k. span k) table (r .due) (c .due) few);
       }
 
   module _ (period work due : List ℕ) (at asked : ℕ) (h : at ≤ limit) (k : Carried table period work due at asked) where

@@ -1,5 +1,6 @@
 // The step instants of a task table, where demand rises: from one to the next without a division, each task's next deadline carried beside it.
 use budget::task::Table;
+use budget::task::span;
 ghost use mathlib.Core.Path.{_≡_};
 ghost use Prim.Native.Nat.{min};
 ghost use Rattle.judge.specs.inner.Steps.{Columned, Stepped, Steppable};
@@ -27,7 +28,8 @@ fn earlier(a: u32, b: u32) -> u32
     b
 }
 
-// The columns of a table as a run begins: each task's first deadline is its next.
+// The columns of a table as a run begins: each task's first deadline, with every job ready as late as it may be, is its next. In the places
+// from the count on stands whatever the table has there.
 pub(crate) fn columns_of(table: Table) -> Columns
     ensures { λ r. ⌜ Columned (table .tasks) r ⌝ }
 {
@@ -40,7 +42,7 @@ pub(crate) fn columns_of(table: Table) -> Columns
         let task = tasks[i];
         period[i] = task.period.0;
         work[i] = task.work.0;
-        due[i] = task.deadline.0;
+        due[i] = span(task);
         i += 1;
     }
     Columns { period, work, due }

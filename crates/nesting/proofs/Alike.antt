@@ -11,7 +11,7 @@ use borrow.Author.Tests.{le-ltb}
 use native.Mathlib.Decide.{decLt}
 use native.Mathlib.Omega.{arith}
 use Rattle.budget.specs.declared.task.Task.{Task}
-use Rattle.run.specs.Job.{Job, noJob, ready}
+use Rattle.run.specs.Job.{Job, noJob}
 use Rattle.run.specs.Run.{MissBy, Rule, leftBy, serve, slotBy}
 use Rattle.run.proofs.Next.{waits-then}
 use Rattle.run.proofs.RunLaws.{left-length}
@@ -20,7 +20,7 @@ use Rattle.nesting.specs.Service.{givenBy, ofTask}
 
 -- the same in each slot before n in which some job is ready
 abbrev pub Alike : List Job → List ℕ → List ℕ → ℕ → Type 0
-Alike js s u n = (m : ℕ) → m < n → (q : ℕ) → q < length js → ready (getD js q noJob) ≤ m → getD s m 0 ≡ getD u m 0
+Alike js s u n = (m : ℕ) → m < n → (q : ℕ) → q < length js → getD js q noJob .ready ≤ m → getD s m 0 ≡ getD u m 0
 
 module _ (rule : Rule) (js : List Job) (waiting : ServedWaits js rule) where
   idle-slot : (m a : ℕ) (left : List ℕ) → length left ≡ length js → length js ≤ rule m left → slotBy rule m a left ≡ left
@@ -31,7 +31,7 @@ module _ (rule : Rule) (js : List Job) (waiting : ServedWaits js rule) where
       go true = refl
       go false = set-out left (rule m left) _ (omega arith)
 
-  same-slot : (m a b : ℕ) (left : List ℕ) → length left ≡ length js → ((q : ℕ) → q < length js → ready (getD js q noJob) ≤ m → a ≡ b)
+  same-slot : (m a b : ℕ) (left : List ℕ) → length left ≡ length js → ((q : ℕ) → q < length js → getD js q noJob .ready ≤ m → a ≡ b)
       → Dec (rule m left < length js) → slotBy rule m a left ≡ slotBy rule m b left
   same-slot m a b left e h (yes l) = ap (λ (x : ℕ). slotBy rule m x left) (h (rule m left) l (waits-then m _ _ (waiting m left l) .is-ready))
   same-slot m a b left e h (no l) = idle-slot m a left e (omega arith) ∙ sym (idle-slot m b left e (omega arith))
@@ -43,7 +43,7 @@ module _ (rule : Rule) (js : List Job) (waiting : ServedWaits js rule) where
       go true = refl
       go false = refl
 
-  same-given : (m a b k : ℕ) (left : List ℕ) → ((q : ℕ) → q < length js → ready (getD js q noJob) ≤ m → a ≡ b) → Dec (rule m left < length js)
+  same-given : (m a b k : ℕ) (left : List ℕ) → ((q : ℕ) → q < length js → getD js q noJob .ready ≤ m → a ≡ b) → Dec (rule m left < length js)
       → cond {A = ℕ} (eqb a 0) 0 (cond (ofTask js k (rule m left)) 1 0) ≡ cond (eqb b 0) 0 (cond (ofTask js k (rule m left)) 1 0)
   unfolding ofTask
   same-given m a b k left h (yes l) = rw (h (rule m left) l (waits-then m _ _ (waiting m left l) .is-ready)) refl

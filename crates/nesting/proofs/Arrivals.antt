@@ -1,71 +1,77 @@
 -- The jobs of a component's run are a legal arrival of its workload: the own jobs are one, a child's budgets lie its Π apart and have its capacity
--- as their work, and within a slot the own jobs stand before the budgets, which stand by rising child.
+-- as their work, own jobs released before slot 0 come first, and within a slot the own jobs stand before the budgets, which stand by rising child.
 use Prim.Native.Nat.{ℕ, zero, suc, _+_, _-_, _%_, _≤_, _<_}
-use mathlib.Core.Bool.{Bool, true, false, cond, not, _||_}
+use mathlib.Core.Bool.{Bool, true, false, cond, not, or-true, _||_}
 use mathlib.Core.List.{List, [], _∷_}
 use mathlib.Core.Path.{_≡_, refl, sym, ap, subst, _∙_}
-use lib.Dec.{leb, eqb}
+use lib.Dec.{eqb, leb, ltb}
+use lib.IntN.{ℤ, negsuc, pos, _+ℤ_, +ℤ-idr}
 use lib.ListN.{length, getD}
-use borrow.Author.Tests.{eq-eqb, eqb-true, le-leb, le-ltb, lt-ltb, ne-eqb}
+use lib.Signed.{leZ, ltZ, _<ℤ_, _≤ℤ_, <ℤ-≤ℤ-trans, <ℤ-irrefl, clashℤ, leZ-yes, ltZ-yes}
+use borrow.Author.Tests.{eqb-true, le-leb, lt-ltb, ltb-true, ne-eqb}
 use native.Mathlib.Decide.{decLt}
-use native.Mathlib.Nat.{le-refl}
+use native.Mathlib.Nat.{le-add-right, le-of-eq, le-refl}
 use native.Mathlib.Omega.{arith}
 use Rattle.budget.specs.declared.task.Task.{Task}
 use Rattle.budget.specs.Interface.{Π}
 use Rattle.budget.specs.Task.{C, T, noTask, validTasks}
 use Rattle.budget.proofs.Valid.{and-true, valid-at}
-use Rattle.run.specs.Job.{Job, apart, inOrder, legalArrival, noJob, taskOf, validJob}
-use Rattle.run.proofs.Arrival.{apart-pair, task-of}
+use Rattle.run.specs.Job.{Job, apart, inOrder, legalArrival, noJob, readyInTime, taskOf, validJob}
+use Rattle.run.proofs.Arrival.{apart-of, apart-pair, task-of}
 use Rattle.promises.proofs.Joined.{Every, Follows, before-all, every-map, legal-append, multiples-apart}
-use Rattle.nesting.specs.Behaviour.{Behaviour, First, arrivals, budgetsIn, jobsIn, releasedIn, slotJobs}
+use Rattle.nesting.specs.Behaviour.{Behaviour, First, arrivals, budgetsIn, isEarly, isSlot, jobsIn, releasedIn, slotJobs}
 use Rattle.nesting.specs.Tree.{Tree, asTask, fed, workload}
 use Rattle.nesting.proofs.Jobs.{Before, Budget, Found, InSlot, JobOf, OwnJob, Release, budget, budgetOf, budgets-in, every-job, head-budget, later-budget, own, own-in, slot-jobs}
-use Rattle.nesting.proofs.Wider.{legal-in, legal-wider}
+use Rattle.nesting.proofs.Wider.{legal-where, legal-wider}
 use Rattle.nesting.proofs.Workload.{task-at, workload-length}
+
+-- no slot lies after one that is some slots on, nor after itself
+slots-on : (r : ℤ) (t : ℕ) → leZ r (r +ℤ pos t) ≡ true
+slots-on (pos n) t = le-leb n (n + t) (le-add-right n t)
+slots-on (negsuc n) t = go (ltb t (suc n))
+  where
+    go : (z : Bool) → leZ (negsuc n) (cond z (negsuc (suc n - suc t)) (pos (t - suc n))) ≡ true
+    go true = le-leb (suc n - suc t) n (omega arith)
+    go false = refl
+
+not-after : (r : ℤ) → leZ r r ≡ true
+not-after r = rw (+ℤ-idr r) at (slots-on r 0)
 
 -- of two jobs of one slot the one of the higher task follows
 slot-follows : (ks : List Task) (a b : Job) → a .release ≡ b .release → a .task < b .task → Follows ks a b
 unfolding inOrder apart
 slot-follows ks a b e l =
-    let r = b .release in
-    rw (e, le-ltb r r (le-refl r), eq-eqb r r refl, le-leb (a .task) (b .task) (omega arith), ne-eqb (a .task) (b .task) (λ h. omega arith))
+    rw (e, not-after (b .release), le-leb (a .task) (b .task) (omega arith), ne-eqb (a .task) (b .task) (λ h. omega arith), or-true)
 
 -- a job of a later slot follows one of an earlier, T apart where they are of one task
-apart-where : (ks : List Task) (a b : Job) → (a .task ≡ b .task → a .release + T (taskOf ks a) ≤ b .release) → apart ks a b ≡ true
-unfolding apart
-apart-where ks a b h = go _ refl
+later-follows : (ks : List Task) (a b : Job) → ltZ (a .release) (b .release) ≡ true
+    → (a .task ≡ b .task → leZ (a .release +ℤ pos (T (taskOf ks a))) (b .release) ≡ true) → Follows ks a b
+unfolding inOrder apart
+later-follows ks a b l h = rw l (go _ refl)
   where
-    go : (z : Bool) → eqb (a .task) (b .task) ≡ z → (not z || leb (a .release + T (taskOf ks a)) (b .release)) ≡ true
-    go true e = le-leb _ _ (h (eqb-true _ _ e))
+    go : (z : Bool) → eqb (a .task) (b .task) ≡ z → (not z || leZ (a .release +ℤ pos (T (taskOf ks a))) (b .release)) ≡ true
+    go true e = h (eqb-true _ _ e)
     go false e = refl
 
-later-follows : (ks : List Task) (a b : Job) → a .release < b .release → (a .task ≡ b .task → a .release + T (taskOf ks a) ≤ b .release)
-    → Follows ks a b
-unfolding inOrder
-later-follows ks a b l h =
-    let order : inOrder a b ≡ true = rw (lt-ltb (a .release) (b .release) l) in
-    and-true order (apart-where ks a b h)
-
--- two jobs of a legal arrival that are of one task
-found-apart : (ks : List Task) (js : List Job) → legalArrival ks js ≡ true → (a b : Job) → Found js a → Found js b → a .release < b .release
-    → a .task ≡ b .task → a .release + T (taskOf ks a) ≤ b .release
+-- two jobs of a legal arrival that are of one task lie T apart, as the earlier one stands before the other
+found-apart : (ks : List Task) (js : List Job) → legalArrival ks js ≡ true → (a b : Job) → Found js a → Found js b
+    → ltZ (a .release) (b .release) ≡ true → a .task ≡ b .task → leZ (a .release +ℤ pos (T (taskOf ks a))) (b .release) ≡ true
 found-apart ks js legal a b x y l same = go (decLt (x .place) (y .place)) (decLt (y .place) (x .place))
   where
-    task : Job → ℕ
-    task j = j .task
+    earlier : a .release <ℤ b .release
+    earlier = ltZ-yes (rw l tt)
 
-    release : Job → ℕ
-    release j = j .release
-
-    go : Dec (x .place < y .place) → Dec (y .place < x .place) → a .release + T (taskOf ks a) ≤ b .release
-    go (yes h) d =
-        rw (← x .there, ← y .there) (apart-pair ks js legal (x .place) (y .place) h (y .inside) (ap task (x .there) ∙ same ∙ sym (ap task (y .there))))
+    go : Dec (x .place < y .place) → Dec (y .place < x .place) → leZ (a .release +ℤ pos (T (taskOf ks a))) (b .release) ≡ true
+    go (yes h) d = apart-of ks a b (rw (x .there, y .there) at (apart-pair ks js legal (x .place) (y .place) h (y .inside))) same
     go (no h) (yes g) =
-        let turned = apart-pair ks js legal (y .place) (x .place) g (x .inside) (ap task (y .there) ∙ sym same ∙ sym (ap task (x .there))) in
-        absurd (omega (arith, ap release (x .there), ap release (y .there)))
+        let turned = apart-of ks b a (rw (x .there, y .there) at (apart-pair ks js legal (y .place) (x .place) g (x .inside))) (sym same) in
+        let on : b .release ≤ℤ (b .release +ℤ pos (T (taskOf ks b))) = leZ-yes (rw (slots-on (b .release) (T (taskOf ks b))) tt) in
+        let back : (b .release +ℤ pos (T (taskOf ks b))) ≤ℤ a .release = leZ-yes (rw turned tt) in
+        clashℤ (<ℤ-≤ℤ-trans earlier on) back
     go (no h) (no g) =
         let e : x .place ≡ y .place = omega arith in
-        absurd (omega (arith, ap release (x .there), ap release (y .there), ap (λ (q : ℕ). release (getD js q noJob)) e))
+        let one : a ≡ b = sym (x .there) ∙ ap (λ (q : ℕ). getD js q noJob) e ∙ y .there in
+        absurd (<ℤ-irrefl (rw one at earlier))
 
 -- two releases of one budget
 releases-apart : (first : First) (p m n : ℕ) → Release first p m → Release first p n → m < n → m + p ≤ n
@@ -86,12 +92,13 @@ module _ (tree : Tree) (b : Behaviour) (c : ℕ) where
   budget-task : (j : Job) (h : Budgets j) → taskOf (workload tree c) j ≡ asTask (tree .interface (getD kept (h .place) 0))
   budget-task j h = task-of (workload tree c) j _ (h .numbered) ∙ task-at tree c (h .place) (h .inside)
 
-  budgets-apart : (x y : Job) → Budgets x → Budgets y → x .release < y .release → x .task ≡ y .task
-      → x .release + T (taskOf (workload tree c) x) ≤ y .release
+  budgets-apart : (x y : Job) → Budgets x → Budgets y → ltZ (x .release) (y .release) ≡ true → x .task ≡ y .task
+      → leZ (x .release +ℤ pos (T (taskOf (workload tree c) x))) (y .release) ≡ true
   budgets-apart x y h k l same =
       let e : k .place ≡ h .place = omega (arith, h .numbered, k .numbered) in
-      let release = subst (λ (p : ℕ). Release (b .first (getD kept p 0)) (Π (tree .interface (getD kept p 0))) (y .release)) e (k .release) in
-      rw (budget-task x h) (releases-apart _ _ (x .release) (y .release) (h .release) release l)
+      let release = subst (λ (p : ℕ). Release (b .first (getD kept p 0)) (Π (tree .interface (getD kept p 0))) (k .slot)) e (k .release) in
+      let later : h .slot < k .slot = ltb-true _ _ (rw (h .released, k .released) at l) in
+      rw (budget-task x h, h .released, k .released) (le-leb _ _ (releases-apart _ _ (h .slot) (k .slot) (h .release) release later))
 
   module _ (tasks : validTasks (workload tree c) ≡ true) (arrival : legalArrival (tree .own c) (b .jobs c) ≡ true) where
     -- the own jobs are a legal arrival of the whole workload
@@ -99,20 +106,22 @@ module _ (tree : Tree) (b : Behaviour) (c : ℕ) where
     unfolding workload
     own-legal = legal-wider (tree .own c) _ (b .jobs c) arrival
 
-    jobs-apart : (x y : Job) → JobOf tree b c x → JobOf tree b c y → x .release < y .release → x .task ≡ y .task
-        → x .release + T (taskOf (workload tree c) x) ≤ y .release
+    jobs-apart : (x y : Job) → JobOf tree b c x → JobOf tree b c y → ltZ (x .release) (y .release) ≡ true → x .task ≡ y .task
+        → leZ (x .release +ℤ pos (T (taskOf (workload tree c) x))) (y .release) ≡ true
     jobs-apart x y (own h) (own k) l same = found-apart (workload tree c) (b .jobs c) own-legal x y (h .found) (k .found) l same
     jobs-apart x y (own h) (budget k) l same = absurd (omega (arith, h .numbered, k .numbered))
     jobs-apart x y (budget h) (own k) l same = absurd (omega (arith, h .numbered, k .numbered))
     jobs-apart x y (budget h) (budget k) l same = budgets-apart x y h k l same
 
     budget-valid : (j : Job) → Budgets j → validJob (workload tree c) j ≡ true
-    unfolding validJob taskOf
+    unfolding validJob readyInTime taskOf
     budget-valid j h =
         let there : j .task < length (workload tree c) = omega (arith, workload-length tree c, h .numbered, h .inside) in
         let whole : j .work ≡ C (getD (workload tree c) (j .task) noTask) = h .work ∙ sym (ap (λ (k : Task). C k) (budget-task j h)) in
-        and-true (lt-ltb _ _ there)
-        (rw whole (and-true (le-leb _ _ (valid-at (workload tree c) tasks (j .task) there .works)) (le-leb (C (getD (workload tree c) (j .task) noTask)) _ (le-refl _))))
+        let works : leb 1 (j .work) ≡ true = rw whole (le-leb _ _ (valid-at (workload tree c) tasks (j .task) there .works)) in
+        let ready : readyInTime (workload tree c) j ≡ true
+        = rw (h .released, h .at-once) (and-true (le-leb _ _ (le-refl (h .slot))) (le-leb _ _ (le-add-right (h .slot) _))) in
+        and-true (lt-ltb _ _ there) (and-true (and-true works (le-leb _ _ (le-of-eq whole))) ready)
 
     -- the budgets of one slot, by rising child
     budgets-step : (k : ℕ) (ks : List ℕ) (i m : ℕ) (z : Bool) → releasedIn (b .first k) (Π (tree .interface k)) m ≡ z
@@ -136,7 +145,7 @@ module _ (tree : Tree) (b : Behaviour) (c : ℕ) where
     slot-legal : (m : ℕ) → legalArrival (workload tree c) (slotJobs tree b c m) ≡ true
     slot-legal m =
         let budgets = budgetsIn tree b kept (length (tree .own c)) m in
-        legal-append (workload tree c) (jobsIn (b .jobs c) m) budgets (legal-in (workload tree c) (b .jobs c) m own-legal)
+        legal-append (workload tree c) (jobsIn (b .jobs c) m) budgets (legal-where (workload tree c) (isSlot m) (b .jobs c) own-legal)
         (budgets-legal kept (length (tree .own c)) m budget-valid)
         (every-map (InSlot (OwnJob tree b c) m) (λ x. Every (Follows (workload tree c) x) budgets)
         (λ x h. every-map (InSlot Budgets m) (Follows (workload tree c) x)
@@ -145,11 +154,11 @@ module _ (tree : Tree) (b : Behaviour) (c : ℕ) where
 
     pub arrivals-legal : (n : ℕ) → legalArrival (workload tree c) (arrivals tree b c n) ≡ true
     unfolding arrivals legalArrival
-    arrivals-legal zero = refl
+    arrivals-legal zero = legal-where (workload tree c) isEarly (b .jobs c) own-legal
     arrivals-legal (suc m) =
         legal-append (workload tree c) (arrivals tree b c m) (slotJobs tree b c m) (arrivals-legal m) (slot-legal m)
         (every-map (Before tree b c arrival m) (λ x. Every (Follows (workload tree c) x) (slotJobs tree b c m))
         (λ x h. every-map (InSlot (JobOf tree b c) m) (Follows (workload tree c) x)
-        (λ y k. let l : x .release < y .release = omega (arith, h .1, k .1) in later-follows (workload tree c) x y l (jobs-apart x y (h .0) (k .0) l))
+        (λ y k. let l : ltZ (x .release) (y .release) ≡ true = rw (k .1) (h .1) in later-follows (workload tree c) x y l (jobs-apart x y (h .0) (k .0) l))
         (slotJobs tree b c m) (slot-jobs tree b c arrival m))
         (arrivals tree b c m) (every-job tree b c arrival m))

@@ -15,11 +15,11 @@ use Rattle.budget.proofs.Valid.{valid-interface}
 use Rattle.judge.specs.Search.{smallest}
 use Rattle.judge.specs.Verdict.{Accepted, accepts, firstShort, isShort, verdictOn}
 use Rattle.judge.proofs.VerdictLaws.{verdict-right}
-use Rattle.run.specs.Job.{apart, beforeAll, deadline, inOrder, legalArrival, noJob, taskOf, validJob}
+use Rattle.run.specs.Job.{apart, beforeAll, deadline, inOrder, legalArrival, noJob, readyInTime, taskOf, validJob}
 use Rattle.run.specs.Order.{headFirst, leastFirst, nextBy, waits}
 use Rattle.run.specs.Run.{leftBy, serve, slotBy}
 use Rattle.trace.specs.WorstTrace.{slots}
-use Rattle.nesting.specs.Behaviour.{Begun, arrivals, budgetsIn, from, jobsIn, releasedIn}
+use Rattle.nesting.specs.Behaviour.{Begun, arrivals, budgetsIn, from, jobsWhere, releasedIn}
 use Rattle.nesting.specs.Figures.{Figure, behaviour, tree}
 use Rattle.nesting.specs.Service.{givenBy, handed, ofTask, traceOf}
 use Rattle.nesting.specs.Tree.{Child, fed, taskOfChild, workload}
@@ -48,18 +48,19 @@ accepted (suc (suc (suc c))) =
     verdict-right (workload tree k) (tasks k) (tree .interface k) (valid-interface _ (interface k))
 
 arrival : (c : ℕ) → legalArrival (tree .own c) (behaviour .jobs c) ≡ true
-unfolding legalArrival validJob beforeAll inOrder apart taskOf
+unfolding legalArrival validJob readyInTime beforeAll inOrder apart taskOf
 arrival zero = refl
 arrival (suc zero) = refl
 arrival (suc (suc zero)) = refl
 arrival (suc (suc (suc c))) = refl
 
-own : (c q : ℕ) → q < length (behaviour .jobs c) → Begun (behaviour .first c) (getD (behaviour .jobs c) q noJob .release)
+own : (c q : ℕ) → q < length (behaviour .jobs c) → Begun (behaviour .first c) (getD (behaviour .jobs c) q noJob .ready)
 own zero q l = absurd (omega arith)
 own (suc zero) zero l = lit≤ tt
 own (suc zero) (suc q) l = absurd (omega arith)
 own (suc (suc zero)) zero l = lit≤ tt
-own (suc (suc zero)) (suc q) l = absurd (omega arith)
+own (suc (suc zero)) (suc zero) l = lit≤ tt
+own (suc (suc zero)) (suc (suc q)) l = absurd (omega arith)
 own (suc (suc (suc c))) q l = zero-le
 
 -- the one child of component 2 begins in slot 2
@@ -83,7 +84,7 @@ capacity (suc (suc zero)) f e = lit≤ tt
 capacity (suc (suc (suc k))) f e = lit≤ tt
 
 pub figure : Figure
-unfolding fed workload taskOfChild arrivals jobsIn budgetsIn releasedIn traceOf handed givenBy ofTask slots leftBy slotBy serve nextBy headFirst waits leastFirst deadline taskOf
+unfolding fed workload taskOfChild arrivals jobsWhere budgetsIn releasedIn traceOf handed givenBy ofTask slots leftBy slotBy serve nextBy headFirst waits leastFirst deadline taskOf
 figure =
     record {
       sound = record { tasks = λ c way. tasks c; interface = λ c way. interface c; accepted = λ c way. accepted c };

@@ -12,7 +12,7 @@ use native.Mathlib.Decide.{ℕ-discrete}
 use native.Mathlib.Nat.{add-zero, add-suc}
 use native.Mathlib.Omega.{arith}
 use Rattle.budget.proofs.Valid.{both}
-use Rattle.run.specs.Job.{Job, noJob, ready}
+use Rattle.run.specs.Job.{Job, noJob}
 use Rattle.run.specs.Run.{Rule, leftBy, serve, slotBy}
 use Rattle.run.proofs.Next.{waits-then}
 use Rattle.trace.specs.Units.{units}
@@ -33,7 +33,7 @@ pub record ReadyJob (js : List Job) (k m : ℕ) : Type 0 where
   pub place : ℕ
   pub inside : place < length js
   pub task : getD js place noJob .task ≡ k
-  pub is-ready : ready (getD js place noJob) ≤ m
+  pub is-ready : getD js place noJob .ready ≤ m
 
 module _ (rule : Rule) (js : List Job) (s : List ℕ) where
   pub given-most : (k m : ℕ) → givenBy rule js s k m ≤ 1

@@ -51,7 +51,7 @@ pub record Known (tree : Tree) (b : Behaviour) (c : ℕ) : Type 0 where
   pub interface : validInterface (tree .interface c) ≡ true
   pub accepted : Accepted (workload tree c) (tree .interface c)
   pub arrival : legalArrival (tree .own c) (b .jobs c) ≡ true
-  pub own : (q : ℕ) → q < length (b .jobs c) → Begun (b .first c) (getD (b .jobs c) q noJob .release)
+  pub own : (q : ℕ) → q < length (b .jobs c) → Begun (b .first c) (getD (b .jobs c) q noJob .ready)
   pub children : (k f : ℕ) → Child tree c k → b .first k ≡ from f → Begun (b .first c) f
   pub capacity : (k f : ℕ) → Child tree c k → b .first k ≡ from f → 1 ≤ Θ (tree .interface k)
 
@@ -68,15 +68,16 @@ module _ (tree : Tree) (b : Behaviour) (c : ℕ) (known : Known tree b c) (n : �
   kind : (q : ℕ) → q < length js → JobOf tree b c (getD js q noJob)
   kind q l = every-at (Before tree b c (known .arrival) n) js (every-job tree b c (known .arrival) n) q l .0
 
-  -- no job comes before the component's first release
-  kind-begun : (j : Job) → JobOf tree b c j → Begun (b .first c) (j .release)
+  -- no job is ready before the component's first release
+  kind-begun : (j : Job) → JobOf tree b c j → Begun (b .first c) (j .ready)
   kind-begun j (own h) =
-      subst (λ (x : Job). Begun (b .first c) (x .release)) (h .found .there) (known .own (h .found .place) (h .found .inside))
+      subst (λ (x : Job). Begun (b .first c) (x .ready)) (h .found .there) (known .own (h .found .place) (h .found .inside))
   kind-begun j (budget h) =
       let stands = fed-stands tree (tree .children c) (h .place) (h .inside) in
       let k = getD (fed tree (tree .children c)) (h .place) 0 in
       let child : Child tree c k = record { place = stands .place; inside = stands .inside; there = stands .there } in
-      begun-later (b .first c) (h .release .start) (j .release) (known .children k (h .release .start) child (h .release .begins)) (h .release .after)
+      rw (h .at-once)
+      (begun-later (b .first c) (h .release .start) (h .slot) (known .children k (h .release .start) child (h .release .begins)) (h .release .after))
 
   module _ (s : List ℕ) (supply : Supply (tree .interface c) (b .first c) n s) where
     alike : (d : ℕ) → Alike js s (longer (supply .filled) d) n
@@ -116,12 +117,12 @@ module _ (tree : Tree) (b : Behaviour) (c : ℕ) (known : Known tree b c) (n : �
       task = length (tree .own c) + p
 
       -- a job of the task is a budget of the child
-      child-begun : (j : Job) → JobOf tree b c j → j .task ≡ task → Begun (b .first k) (j .release)
+      child-begun : (j : Job) → JobOf tree b c j → j .task ≡ task → Begun (b .first k) (j .ready)
       child-begun j (own h) e = absurd (omega (arith, h .numbered))
       child-begun j (budget h) e =
           let same : h .place ≡ p = omega (arith, h .numbered) in
-          subst (λ (x : ℕ). Begun (b .first (getD (fed tree (tree .children c)) x 0)) (j .release)) same
-          (rw (h .release .begins) (h .release .after))
+          subst (λ (x : ℕ). Begun (b .first (getD (fed tree (tree .children c)) x 0)) (j .ready)) same
+          (rw (h .at-once, h .release .begins) (h .release .after))
 
       given-begun : (m : ℕ) → 0 < givenBy rule js s task m → Begun (b .first k) m
       given-begun m h =
@@ -151,8 +152,8 @@ module _ (tree : Tree) (b : Behaviour) (c : ℕ) (known : Known tree b c) (n : �
         paid : Θ (tree .interface k) ≤ units (givenBy rule js trace task) r (Δ (tree .interface k))
         paid =
             let job = found .there in
-            let release = ap (λ (j : Job). j .release) job in
-            let all = untouched rule js trace waiting r (found .place) (found .inside) (le-of-eq (sym release)) ∙ ap (λ (j : Job). j .work) job in
+            let ready = ap (λ (j : Job). j .ready) job in
+            let all = untouched rule js trace waiting r (found .place) (found .inside) (le-of-eq (sym ready)) ∙ ap (λ (j : Job). j .work) job in
             let given = rw (ap (λ (j : Job). j .task) job) at (left-given rule js trace (found .place) r (Δ (tree .interface k)) (found .inside)) in
             omega (arith, spent)
 

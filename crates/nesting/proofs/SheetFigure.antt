@@ -26,7 +26,7 @@ use Rattle.judge.specs.Search.{smallest}
 use Rattle.judge.specs.Verdict.{accepts, firstShort, isShort, verdictOn}
 use Rattle.record.specs.declared.layout.Pair.{Pair}
 use Rattle.record.specs.Field.{Bytes, encode}
-use Rattle.record.specs.Layout.{endBytes, headBytes, pairBytes, taskBytes}
+use Rattle.record.specs.Layout.{endBytes, headBytes, pairBytes, taskBytes, taskBytesBy}
 use Rattle.sheet.specs.declared.check.Checked.{Checked}
 use Rattle.sheet.specs.Check.{check, pairsOf}
 use Rattle.sheet.specs.Pairs.{Nested, named, ownTasks, pairRefusal, pairs, registered, rises}
@@ -59,7 +59,7 @@ all-bytes (n ∷ ns) e zero = ltb-true n 256 (both (ltb n 256) (allBytes ns) e .
 all-bytes (n ∷ ns) e (suc i) = all-bytes ns (both (ltb n 256) (allBytes ns) e .1) i
 
 bytes : Bytes Figure.sheet
-unfolding allBytes sheetBytes componentsBytes pairsBytes componentBytes tasksBytes tasksOf tableOf headBytes taskBytes pairBytes endBytes encode
+unfolding allBytes sheetBytes componentsBytes pairsBytes componentBytes tasksBytes tasksOf tableOf headBytes taskBytes taskBytesBy pairBytes endBytes encode
 bytes = all-bytes Figure.sheet refl
 
 rising : Rising 0 Figure.components
@@ -72,7 +72,7 @@ unfolding pairRefusal pairs rises registered ownTasks named entriesOf tasksOf ta
 nested = (refl, tt)
 
 fitting : Fitting Figure.components Figure.pairs
-unfolding sheetBytes componentsBytes pairsBytes componentBytes tasksBytes tasksOf tableOf headBytes taskBytes pairBytes endBytes encode
+unfolding sheetBytes componentsBytes pairsBytes componentBytes tasksBytes tasksOf tableOf headBytes taskBytes taskBytesBy pairBytes endBytes encode
 fitting = record { rising = rising; nested = nested; few = lit≤ tt; short = lit≤ tt }
 
 abbrev child : Component

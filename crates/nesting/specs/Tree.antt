@@ -16,9 +16,9 @@ pub record Tree : Type 0 where
   pub own : ℕ → List Task
   pub children : ℕ → List ℕ
 
--- an interface (Π, Θ, Δ) as the task (T, C, D) of the component above
+-- an interface (Π, Θ, Δ) as the task (T, C, D) of the component above, whose jobs are ready when they are released
 abbrev pub asTask : Interface → Task
-asTask i = record { period = i .period; work = i .capacity; deadline = i .deadline }
+asTask i = record { period = i .period; work = i .capacity; deadline = i .deadline; lateness = record { 0 = 0 } }
 
 -- those of some children that are given a capacity, in the same order: a child with capacity 0 adds no task
 unfoldable pub fed : Tree → List ℕ → List ℕ

@@ -1,7 +1,7 @@
 -- Demand 3, and the statements of its core: what was shown of the run, of demand and of the worst trace, put together.
 use Prim.Native.Nat.{ℕ, _+_, _≤_, _<_}
 use mathlib.Core.Bool.{Bool, cond, false, true}
-use mathlib.Core.List.{List}
+use mathlib.Core.List.{List, [], _∷_}
 use mathlib.Core.Path.{_≡_, refl, sym, subst, _∙_}
 use lib.Dec.{leb}
 use lib.ListN.{length}
@@ -30,13 +30,14 @@ use Rattle.judge.specs.Judged.{judgedAt, verdictAnswer}
 use Rattle.judge.specs.Verdict.{Accepted, Judgement, ShortAt, verdictOn}
 use Rattle.judge.proofs.CapacityLaws.{capacity-valid}
 use Rattle.judge.proofs.VerdictLaws.{verdict-right}
+use Rattle.run.specs.Job.{Job, deadline, taskOf}
 use Rattle.run.specs.Run.{MissAt}
 use Rattle.trace.specs.Units.{units}
 use Rattle.trace.proofs.Units.{supplied-part}
 use Rattle.trace.proofs.Windows.{window-units}
 use Rattle.trace.specs.WorstTrace.{worstOffset, worstTrace}
 use Rattle.trace.proofs.WorstTrace.{worst-bits, worst-legal, worst-length, worst-prefix, worst-within}
-use Rattle.promises.specs.Demand3.{AskedPromise, CapacityPromise, Demand3, Misses, Promise, Run, StatedPromise}
+use Rattle.promises.specs.Demand3.{AskedPromise, CapacityPromise, Demand3, Misses, Promise, Run, SameReleases, StatedPromise}
 use Rattle.promises.specs.inner.Core.{AcceptedNeverMisses, Balance, EarliestDeadlineFirst, NoMissWhileFitting, ShortMissesThen, UrgentWork, WorkWithinDemand}
 use Rattle.promises.specs.inner.Serving.{dueBy, unitOf, workOf}
 use Rattle.promises.specs.Synchronous.{synchronous}
@@ -83,6 +84,19 @@ exactly ks i run t reached none u h m = go (decLt u t)
         let same : u ≡ t = omega arith in
         record { reached = reached; miss = subst (MissAt ks (run .jobs) (run .trace)) same m }
 
+-- the work due by an instant goes by tasks, releases and works, so it is the same whenever the jobs become ready
+same-work : (ks : List Task) (t : ℕ) (a b : List Job) → SameReleases a b → workOf (dueBy ks t) a ≡ workOf (dueBy ks t) b
+unfolding workOf dueBy deadline taskOf
+same-work ks t [] [] s = refl
+same-work ks t [] (y ∷ b) s = absurd (let z : _≡_ {A = ℕ} 0 1 = cc (s .tasks) in omega arith)
+same-work ks t (x ∷ a) [] s = absurd (let z : _≡_ {A = ℕ} 0 1 = cc (s .tasks) in omega arith)
+same-work ks t (x ∷ a) (y ∷ b) s =
+    let task : x .task ≡ y .task = cc (s .tasks) in
+    let release : x .release ≡ y .release = cc (s .releases) in
+    let work : x .work ≡ y .work = cc (s .works) in
+    let rest = same-work ks t a b (record { tasks = cc (s .tasks); releases = cc (s .releases); works = cc (s .works) }) in
+    rw (task, release, work, rest)
+
 module _ (ks : List Task) (i : Interface) (tasks : validTasks ks ≡ true) (interface : validInterface i ≡ true) where
   -- the run that misses
   abbrev missing : ℕ → Run ks i
@@ -105,22 +119,27 @@ module _ (ks : List Task) (i : Interface) (tasks : validTasks ks ≡ true) (inte
   none-earlier : (t : ℕ) → ShortAt ks i t → (run : Run ks i) (u : ℕ) → u < t → Misses ks i run u → ⊥
   none-earlier t short run u l m = no-miss-while-fitting ks i tasks interface u (λ w some h. short .first w some (omega arith)) run m
 
-  it-misses : (t : ℕ) → ShortAt ks i t → Misses ks i (missing t) t
-  it-misses t short =
-      let run = missing t in
+  -- every run with its releases and its trace misses, so it does too
+  it-misses : (t : ℕ) → ShortAt ks i t → (run : Run ks i) → SameReleases (run .jobs) (synchronous ks t) → run .trace ≡ worstTrace i t → Misses ks i run t
+  it-misses t short run same on =
       let more = short .short in
-      let few : units (unitOf (worstTrace i t)) 0 t < workOf (dueBy ks t) (synchronous ks t) = omega (arith, given t, synchronous-asks ks tasks t) in
+      let supplied : units (unitOf (run .trace)) 0 t ≡ supply i t = rw on (given t) in
+      let few : units (unitOf (run .trace)) 0 t < workOf (dueBy ks t) (run .jobs) = omega (arith, same-work ks t (run .jobs) (synchronous ks t) same, synchronous-asks ks tasks t) in
       let late = late-by ks tasks (run .jobs) (run .arrival) (run .trace) (run .bits) t (too-few ks tasks (run .jobs) (run .arrival) (run .trace) (run .bits) t few) in
-      exactly ks i run t (le-of-eq (sym (worst-length i (valid-interface i interface) t))) (none-earlier t short run) (late .0) (late .1) (late .2)
+      let reached : t ≤ length (run .trace) = rw on (le-of-eq (sym (worst-length i (valid-interface i interface) t))) in
+      exactly ks i run t reached (none-earlier t short run) (late .0) (late .1) (late .2)
 
 pub short-misses-then : ShortMissesThen
 short-misses-then ks i tasks interface t short =
+    let every = it-misses ks i tasks interface t short in
+    let run = missing ks i tasks interface t in
     record {
-      run = missing ks i tasks interface t;
+      run = run;
       jobs = refl;
       offset = refl;
       trace = refl;
-      misses = it-misses ks i tasks interface t short;
+      misses = every run (record { tasks = refl; releases = refl; works = refl }) refl;
+      whenever-ready = every;
       earliest = none-earlier ks i tasks interface t short;
     }
 

@@ -8,6 +8,7 @@ pub mod Joined
 pub mod Judging
 pub mod NoMiss
 pub mod Serving
+pub mod SignedSlots
 pub mod Sums
 pub mod Synchronous
 pub mod Window

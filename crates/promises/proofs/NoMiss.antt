@@ -16,11 +16,12 @@ use Rattle.budget.specs.declared.task.Task.{Task}
 use Rattle.budget.specs.Task.{validTasks}
 use Rattle.budget.specs.Demand.{demand}
 use Rattle.budget.specs.Supply.{supply}
-use Rattle.budget.proofs.Valid.{both, and-true, valid-at}
+use Rattle.budget.proofs.Valid.{both, and-true, span-fits, valid-at}
 use Rattle.budget.proofs.DemandLaws.{demand-zero}
-use Rattle.run.specs.Job.{Job, deadline, taskOf, legalArrival, noJob, ready}
+use Rattle.run.specs.Job.{Job, deadline, taskOf, legalArrival, noJob}
 use Rattle.run.specs.Run.{MissAt, earliestDeadline, leftBy}
-use Rattle.run.proofs.Arrival.{arrival-at}
+use Rattle.run.proofs.Arrival.{valid-in, valid-job}
+use Rattle.run.proofs.Latest.{due-of-latest, ready-by-latest}
 use Rattle.run.proofs.RunLaws.{left-falls-by}
 use Rattle.trace.specs.Legal.{zerosAndOnes}
 use Rattle.trace.specs.Units.{units}
@@ -37,33 +38,34 @@ fits-or-none ks valid i t fits n h (yes l) = fits n l h
 fits-or-none ks valid i t fits n h (no l) = let e : n ≡ 0 = omega arith in rw e (omega (arith, demand-zero ks valid))
 
 -- the work asked in a window is at most that of the urgent jobs ready in it or later
-pub asked-from : (urgent : Job → Bool) (js : List Job) (a n : ℕ) → units (asked urgent js) a n ≤ workOf (λ j. leb a (ready j) && urgent j) js
+pub asked-from : (urgent : Job → Bool) (js : List Job) (a n : ℕ) → units (asked urgent js) a n ≤ workOf (λ j. leb a (j .ready) && urgent j) js
 unfolding asked
 asked-from urgent js a n =
-    let sum = work-by-key ready urgent js a n in
-    let parts = work-below-or-from ready urgent js a in
-    let fewer = work-le (λ j. ltb (ready j) (a + n) && urgent j) urgent js (λ q l h. both (ltb (ready (getD js q noJob)) (a + n)) _ h .1) in
+    let sum = work-by-key (λ j. j .ready) urgent js a n in
+    let parts = work-below-or-from (λ j. j .ready) urgent js a in
+    let fewer = work-le (λ j. ltb (j .ready) (a + n) && urgent j) urgent js (λ q l h. both (ltb ((getD js q noJob) .ready) (a + n)) _ h .1) in
     omega arith
 
 -- and by t it is all the urgent work, where every urgent job is ready before t
-pub asked-all : (urgent : Job → Bool) (js : List Job) (t : ℕ) → ((q : ℕ) → q < length js → urgent (getD js q noJob) ≡ true → ready (getD js q noJob) < t)
+pub asked-all : (urgent : Job → Bool) (js : List Job) (t : ℕ) → ((q : ℕ) → q < length js → urgent (getD js q noJob) ≡ true → (getD js q noJob) .ready < t)
     → workOf urgent js ≤ units (asked urgent js) 0 t
 unfolding asked
 asked-all urgent js t before =
-    let sum = work-by-key ready urgent js 0 t in
-    let none = work-none (λ j. ltb (ready j) 0 && urgent j) js
-    (λ q l h. not-suc-le-zero (ltb-true (ready (getD js q noJob)) 0 (both (ltb (ready (getD js q noJob)) 0) _ h .0))) in
-    let all = work-le urgent (λ j. ltb (ready j) (0 + t) && urgent j) js
-    (λ q l h. and-true (lt-ltb (ready (getD js q noJob)) (0 + t) (rw zero-add (before q l h))) h) in
+    let sum = work-by-key (λ j. j .ready) urgent js 0 t in
+    let none = work-none (λ j. ltb (j .ready) 0 && urgent j) js
+    (λ q l h. not-suc-le-zero (ltb-true ((getD js q noJob) .ready) 0 (both (ltb ((getD js q noJob) .ready) 0) _ h .0))) in
+    let all = work-le urgent (λ j. ltb (j .ready) (0 + t) && urgent j) js
+    (λ q l h. and-true (lt-ltb ((getD js q noJob) .ready) (0 + t) (rw zero-add (before q l h))) h) in
     omega arith
 
 module _ (ks : List Task) (valid : validTasks ks ≡ true) (js : List Job) (arrival : legalArrival ks js ≡ true) where
-  -- a job is ready before its deadline
-  pub ready-before : (q : ℕ) → q < length js → ready (getD js q noJob) < deadline ks (getD js q noJob)
-  unfolding deadline taskOf
+  -- a job is ready before its deadline, as it is by its latest slot and the span is at least 1
+  pub ready-before : (q : ℕ) → q < length js → (getD js q noJob) .ready < deadline ks (getD js q noJob)
+  unfolding taskOf
   ready-before q l =
-      let v = valid-at ks valid _ (arrival-at ks js arrival q l .numbered) in
-      omega (arith, v .works, v .fits)
+      let v = valid-in ks js arrival q l in
+      let k = valid-at ks valid _ (valid-job ks _ v .numbered) in
+      omega (arith, ready-by-latest ks _ v, due-of-latest ks valid _ v, k .works, span-fits _ k)
 
   module _ (s : List ℕ) (bits : zerosAndOnes s ≡ true) where
     -- what is asked in a window that ends at t is at most the demand of its length
@@ -89,8 +91,8 @@ module _ (ks : List Task) (valid : validTasks ks ≡ true) (js : List Job) (arri
         let due = m .due in
         let before = ready-before (m .place) (m .inside) in
         let j = getD js (m .place) noJob in
-        let passes = and-true (lt-ltb (ready j) t (omega arith)) (le-leb (deadline ks j) t (omega arith)) in
-        le-trans (m .late) (left-at (λ j. ltb (ready j) t && leb (deadline ks j) t) js left (m .place) (m .inside) passes)
+        let passes = and-true (lt-ltb (j .ready) t (omega arith)) (le-leb (deadline ks j) t (omega arith)) in
+        le-trans (m .late) (left-at (λ j. ltb (j .ready) t && leb (deadline ks j) t) js left (m .place) (m .inside) passes)
 
     pub no-miss : (i : Interface) (t : ℕ) → ((u : ℕ) → 1 ≤ u → u ≤ t → demand ks u ≤ supply i u)
         → ((a n : ℕ) → a + n ≤ t → supply i n ≤ units (unitOf s) a n) → MissAt ks js s t → ⊥
@@ -101,10 +103,10 @@ module _ (ks : List Task) (valid : validTasks ks ≡ true) (js : List Job) (arri
     unfolding waitingAt dueBy
     late-by t h =
         let left = leftBy (earliestDeadline ks js) js s in
-        let f = left-found (λ j. ltb (ready j) t && leb (deadline ks j) t) js (left t) h in
+        let f = left-found (λ j. ltb (j .ready) t && leb (deadline ks j) t) js (left t) h in
         let j = getD js (f .place) noJob in
         let u = deadline ks j in
-        let due : u ≤ t = leb-true _ _ (both (ltb (ready j) t) _ (f .passes) .1) in
+        let due : u ≤ t = leb-true _ _ (both (ltb (j .ready) t) _ (f .passes) .1) in
         let d = le-dest due in
         let still : 0 < getD (left (u + d .0)) (f .place) 0 = rw (d .1) (f .some) in
         (u, due, record { place = f .place; inside = f .inside; due = refl; late = le-trans still (left-falls-by (earliestDeadline ks js) js s u (d .0) (f .place)) })

@@ -1,5 +1,5 @@
 -- A rule that serves urgent jobs first keeps the one equation of the urgent work: what is left at instant n + 1 is what arrives in slot n and
--- what was left at n, less the unit of slot n. A job not yet released has all its work left, as a unit goes only to a job that waits.
+-- what was left at n, less the unit of slot n. A job that is not ready yet has all its work left, as a unit goes only to a job that waits.
 use Prim.Native.Nat.{ℕ, zero, suc, _+_, _-_, _≤_, _<_, suc-le-suc, zero-le}
 use mathlib.Core.Bool.{Bool, true, false, cond, _&&_}
 use mathlib.Core.List.{List}
@@ -13,7 +13,7 @@ use native.Mathlib.Decide.{decLt}
 use native.Mathlib.Nat.{le-of-eq}
 use native.Mathlib.Omega.{arith}
 use Rattle.budget.proofs.Valid.{both, and-true}
-use Rattle.run.specs.Job.{Job, noJob, ready}
+use Rattle.run.specs.Job.{Job, noJob}
 use Rattle.run.specs.Order.{waits}
 use Rattle.run.specs.Run.{Rule, leftBy, serve, slotBy}
 use Rattle.run.proofs.Next.{then-waits, waits-then}
@@ -28,10 +28,10 @@ positive b h e = let d : b ≢ 0 = eqb-false b 0 e in omega arith
 
 module _ (rule : Rule) (js : List Job) (s : List ℕ) where
   module _ (waiting : ServedWaits js rule) where
-    elsewhere : (n q : ℕ) (left : List ℕ) → q < length js → suc n ≤ ready (getD js q noJob) → q ≢ rule n left
+    elsewhere : (n q : ℕ) (left : List ℕ) → q < length js → suc n ≤ (getD js q noJob) .ready → q ≢ rule n left
     elsewhere n q left l h e =
         let w = waits-then n _ _ (waiting n left (rw (← e) l)) .is-ready in
-        let r : ready (getD js q noJob) ≤ n = rw e w in
+        let r : (getD js q noJob) .ready ≤ n = rw e w in
         omega arith
 
     untouched-slot : (b : Bool) (left : List ℕ) (p q w : ℕ) → q ≢ p → getD left q 0 ≡ w → getD (cond b left (serve left p)) q 0 ≡ w
@@ -39,8 +39,8 @@ module _ (rule : Rule) (js : List Job) (s : List ℕ) where
     untouched-slot true left p q w d e = e
     untouched-slot false left p q w d e = getD-set-other left p q _ 0 d ∙ e
 
-    -- a job that is not released before n has all its work left at n
-    pub untouched : (n q : ℕ) → q < length js → n ≤ ready (getD js q noJob) → getD (leftBy rule js s n) q 0 ≡ (getD js q noJob) .work
+    -- a job that is not ready before n has all its work left at n
+    pub untouched : (n q : ℕ) → q < length js → n ≤ (getD js q noJob) .ready → getD (leftBy rule js s n) q 0 ≡ (getD js q noJob) .work
     unfolding leftBy slotBy
     untouched zero q l h = List·getD-map (λ j. j .work) js q noJob
     untouched (suc n) q l h =
@@ -50,16 +50,16 @@ module _ (rule : Rule) (js : List Job) (s : List ℕ) where
     -- a supplied slot takes one unit of the urgent work that waits, if there is any
     module _ (n : ℕ) (left : List ℕ) where
       abbrev ripe : Job → Bool
-      ripe j = ltb (ready j) (suc n) && urgent j
+      ripe j = ltb (j .ready) (suc n) && urgent j
 
       ripe-waits : (q : ℕ) → ripe (getD js q noJob) ≡ true → 0 < getD left q 0 → waits n (getD js q noJob) (getD left q 0) ≡ true
       ripe-waits q e h =
-          let r : ready (getD js q noJob) < suc n = ltb-true _ _ (both _ _ e .0) in
+          let r : (getD js q noJob) .ready < suc n = ltb-true _ _ (both _ _ e .0) in
           then-waits n _ _ (record { is-ready = omega arith; some = h })
 
       served : Left ripe js left → leftOf ripe js left ≡ suc (leftOf ripe js (serve left (rule n left)))
       served f =
-          let u = both (ltb (ready (getD js (f .place) noJob)) (suc n)) _ (f .passes) .1 in
+          let u = both (ltb ((getD js (f .place) noJob) .ready) (suc n)) _ (f .passes) .1 in
           let w = ripe-waits (f .place) (f .passes) (f .some) in
           let l = first .busy n left (f .place) (f .inside) u w in
           let v = waits-then n _ _ (first .waiting n left l) in
@@ -81,14 +81,14 @@ module _ (rule : Rule) (js : List Job) (s : List ℕ) where
     goes bits n =
         let left = leftBy rule js s n in
         given n left (unitOf s n) (bit s bits 0 zero-le n) _ refl
-        ∙ ap (λ (w : ℕ). w - unitOf s n) (left-below-suc ready urgent js left n (left-length rule js s n) (λ q l e. untouched (first .waiting) n q l (le-of-eq (sym e))))
+        ∙ ap (λ (w : ℕ). w - unitOf s n) (left-below-suc (λ j. j .ready) urgent js left n (left-length rule js s n) (λ q l e. untouched (first .waiting) n q l (le-of-eq (sym e))))
 
     begins : waitingAt urgent rule js s 0 ≡ 0
     unfolding waitingAt
     begins = none (decLt 0 (leftOf unborn js left))
       where
         unborn : Job → Bool
-        unborn j = ltb (ready j) 0 && urgent j
+        unborn j = ltb (j .ready) 0 && urgent j
 
         left : List ℕ
         left = leftBy rule js s 0
@@ -96,7 +96,7 @@ module _ (rule : Rule) (js : List Job) (s : List ℕ) where
         none : Dec (0 < leftOf unborn js left) → leftOf unborn js left ≡ 0
         none (yes h) =
             let f = left-found unborn js left h in
-            let r : ready (getD js (f .place) noJob) < 0 = ltb-true _ _ (both _ _ (f .passes) .0) in
+            let r : (getD js (f .place) noJob) .ready < 0 = ltb-true _ _ (both _ _ (f .passes) .0) in
             absurd (omega arith)
         none (no h) = omega arith
 

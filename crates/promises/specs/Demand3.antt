@@ -1,7 +1,7 @@
 -- Demand 3: what an answer of the judge says of every run, and the run that shows a short answer right (RULES 7, 9).
 use Prim.Native.Nat.{ℕ, _≤_, _<_}
 use mathlib.Core.Bool.{true}
-use mathlib.Core.List.{List}
+use mathlib.Core.List.{List, map}
 use mathlib.Core.Path.{_≡_}
 use lib.ListN.{length}
 use Rattle.budget.specs.declared.component.Capacity.{Capacity}
@@ -28,7 +28,7 @@ use Rattle.trace.specs.Legal.{Legal, zerosAndOnes}
 use Rattle.trace.specs.WorstTrace.{worstOffset, worstTrace}
 use Rattle.promises.specs.Synchronous.{synchronous}
 
--- a run: jobs that arrive legally, and a legal trace, both of any length; nothing waits as it begins
+-- a run: jobs that arrive legally, and a legal trace, both of any length; nothing waits as it begins, as no job is ready before slot 0
 pub record Run (ks : List Task) (i : Interface) : Type 0 where
   pub jobs : List Job
   pub offset : ℕ
@@ -47,13 +47,21 @@ pub record Misses (ks : List Task) (i : Interface) (run : Run ks i) (t : ℕ) : 
 abbrev pub NeverMisses : List Task → Interface → Type 0
 NeverMisses ks i = (run : Run ks i) (t : ℕ) → Misses ks i run t → ⊥
 
--- what short says: here is a run that misses at t, the synchronous arrival on the worst trace, and no run misses before t
+-- arrivals that differ at most in the slots in which their jobs become ready
+pub record SameReleases (a b : List Job) : Type 0 where
+  pub tasks : map (λ j. j .task) a ≡ map (λ j. j .task) b
+  pub releases : map (λ j. j .release) a ≡ map (λ j. j .release) b
+  pub works : map (λ j. j .work) a ≡ map (λ j. j .work) b
+
+-- what short says: here is a run that misses at t, the synchronous arrival on the worst trace; so does every run on that trace with the same
+-- releases, whenever its jobs become ready; and no run misses before t
 pub record MissesFirstAt (ks : List Task) (i : Interface) (t : ℕ) : Type 0 where
   pub run : Run ks i
   pub jobs : run .jobs ≡ synchronous ks t
   pub offset : run .offset ≡ worstOffset i
   pub trace : run .trace ≡ worstTrace i t
   pub misses : Misses ks i run t
+  pub whenever-ready : (other : Run ks i) → SameReleases (other .jobs) (run .jobs) → other .trace ≡ run .trace → Misses ks i other t
   pub earliest : (other : Run ks i) (u : ℕ) → u < t → Misses ks i other u → ⊥
 
 -- q is accepted for the component's period and deadline, and every smaller capacity is short

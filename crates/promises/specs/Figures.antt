@@ -3,23 +3,33 @@
 use Prim.Native.Nat.{ℕ}
 use mathlib.Core.List.{List, [], _∷_, map}
 use mathlib.Core.Path.{_≡_}
-use lib.IntN.{pos, negsuc}
+use mathlib.Core.Bool.{true, false}
+use lib.IntN.{ℤ, pos, negsuc}
 use Rattle.budget.specs.declared.task.Task.{Task}
 use Rattle.budget.specs.CommonPeriod.{commonPeriod}
 use Rattle.budget.specs.Demand.{demand}
 use Rattle.budget.specs.Interface.{interface, dedicated}
 use Rattle.budget.specs.Supply.{supply}
+use Rattle.budget.specs.Task.{validTasks}
+use Rattle.judge.specs.declared.answer.Margined.{Margined}
 use Rattle.judge.specs.declared.answer.Margined.the-variants.{Least}
+use Rattle.judge.specs.declared.answer.Verdict.{Verdict}
 use Rattle.judge.specs.declared.answer.Verdict.the-variants.{Accepted, Short}
+use Rattle.judge.specs.Capacity.{smallestCapacity}
 use Rattle.judge.specs.Margin.{marginOn, marginOf}
 use Rattle.judge.specs.Verdict.{verdictOn}
-use Rattle.run.specs.Job.{Job}
+use Rattle.run.specs.FirstMiss.{NoMiss}
+use Rattle.run.specs.Job.{Job, legalArrival}
 use Rattle.run.specs.Run.{MissAt, leftAt}
+use Rattle.run.specs.Walk.{servedBefore}
 use Rattle.trace.specs.Legal.{Legal}
 
--- the task (T, C, D)
+-- the task (T, C, D, J), and the task (T, C, D) whose jobs are ready when they are released
+abbrev lateTask : ℕ → ℕ → ℕ → ℕ → Task
+lateTask t c d j = record { period = record { 0 = t }; work = record { 0 = c }; deadline = record { 0 = d }; lateness = record { 0 = j } }
+
 abbrev task : ℕ → ℕ → ℕ → Task
-task t c d = record { period = record { 0 = t }; work = record { 0 = c }; deadline = record { 0 = d } }
+task t c d = lateTask t c d 0
 
 -- the tasks of P9, P10 and P11
 abbrev pub nine : List Task
@@ -35,8 +45,28 @@ eleven = task 8 2 7 ∷ []
 abbrev pub trace : List ℕ
 trace = 0 ∷ 0 ∷ 0 ∷ 0 ∷ 0 ∷ 0 ∷ 1 ∷ 1 ∷ []
 
+abbrev pub job : ℤ → ℕ → List Job
+job r a = record { task = 0; release = r; ready = a; work = 2 } ∷ []
+
 abbrev pub jobs : List Job
-jobs = record { task = 0; release = 0; work = 2 } ∷ []
+jobs = job (pos 0) 0
+
+-- P13 to P16: the task (8, 2, 8, J)
+abbrev pub late : ℕ → List Task
+late j = lateTask 8 2 8 j ∷ []
+
+-- its verdict and margin at (6, 2, 4), and the smallest capacity for Π = 6 and Δ = 4; 5 stands for none, as even 4 is short
+abbrev at : ℕ → ℕ
+at j = commonPeriod 6 (late j)
+
+abbrev judged : ℕ → Verdict
+judged j = verdictOn (late j) (interface 6 2 4) (at j)
+
+abbrev margin : ℕ → Margined
+margin j = marginOn (late j) (interface 6 2 4) (at j)
+
+abbrev least : ℕ → ℕ
+least j = smallestCapacity (late j) 6 4 (at j)
 
 -- a row: the figure's number and what it says; `negsuc 0` is −1
 pub record Figure : Type 1 where
@@ -61,6 +91,16 @@ figures =
     ∷ p 11 ((verdictOn eleven (interface 6 2 4) (commonPeriod 6 eleven) ≡ Short (record { 0 = 7 })) × (marginOn eleven (interface 6 2 4) (commonPeriod 6 eleven) ≡ Least (negsuc 0) (record { 0 = 7 })))
     ∷ p 12 (Legal (interface 6 2 4) 2 trace × (¬ Legal (interface 6 2 4) 0 trace) × (¬ Legal (interface 6 2 4) 3 trace))
     ∷ p 12 (MissAt eleven jobs trace 7 × (leftAt eleven jobs trace 7 ≡ 1 ∷ []))
+    ∷ p 13 ((judged 0 ≡ Accepted) × (margin 0 ≡ Least (pos 0) (record { 0 = 8 })))
+    ∷ p 13 ((judged 1 ≡ Short (record { 0 = 7 })) × (margin 1 ≡ Least (negsuc 0) (record { 0 = 7 })))
+    ∷ p 13 ((judged 2 ≡ Short (record { 0 = 6 })) × (margin 2 ≡ Least (negsuc 1) (record { 0 = 6 })))
+    ∷ p 13 (judged 6 ≡ Short (record { 0 = 2 }))
+    ∷ p 14 (map (λ j. validTasks (late j)) (0 ∷ 6 ∷ 7 ∷ []) ≡ true ∷ true ∷ false ∷ [])
+    ∷ p 15 (map least (0 ∷ 1 ∷ 2 ∷ 3 ∷ 4 ∷ 5 ∷ 6 ∷ []) ≡ 2 ∷ 3 ∷ 3 ∷ 4 ∷ 4 ∷ 5 ∷ 5 ∷ [])
+    ∷ p 16 ((legalArrival (late 1) (job (negsuc 0) 0) ≡ true) × MissAt (late 1) (job (negsuc 0) 0) trace 7)
+    ∷ p 16 ((servedBefore (late 1) (job (negsuc 0) 0) trace 7 ≡ 1) × (leftAt (late 1) (job (negsuc 0) 0) trace 7 ≡ 1 ∷ []))
+    ∷ p 16 ((legalArrival (late 1) (job (pos 0) 1) ≡ true) × NoMiss (late 1) (job (pos 0) 1) trace)
+    ∷ p 16 (legalArrival (late 1) (job (negsuc 1) 0) ≡ false)
     ∷ []
 
 -- every row of the table holds

@@ -1,6 +1,7 @@
 -- Laws of one record: read, it is no longer than what is left; its bytes are those of its kind's row, and as many as its size says.
 use Prim.Native.Nat.{ℕ, _≤_, zero-le}
 use mathlib.Core.Path.{_≡_, refl, sym, ap, _∙_}
+use mathlib.Core.Bool.{true, false}
 use mathlib.Core.List.{List}
 use lib.ListN.{length}
 use lib.Dec.{ltb, eqb}
@@ -13,7 +14,7 @@ use Rattle.record.specs.declared.layout.Record.{Record}
 use Rattle.record.specs.declared.layout.Record.the-variants.{ComponentRecord, TaskRecord, PairRecord, EndRecord, NoRecord}
 use Rattle.record.specs.Field.{encode, field}
 use Rattle.record.specs.Row.{rowLength, rowBytes, valuesAt}
-use Rattle.record.specs.Layout.{rowOf, recordWith, headBytes, taskBytes, pairBytes, endBytes, recordBytes, headSize, sizeOf, ofKind, recordOf}
+use Rattle.record.specs.Layout.{rowOf, recordWith, headBytes, taskBytesBy, pairBytes, endBytes, recordBytes, headSize, taskSize, sizeOf, ofKind, recordOf}
 use Rattle.record.specs.inner.Fields.{headKind, headFields, kindOf, fieldsOf, headed}
 use Rattle.record.proofs.Cases.{cases}
 use Rattle.record.proofs.KindLaws.{by-kind}
@@ -28,9 +29,9 @@ module _ (s : List ℕ) where
   no-record n = zero-le
 
   with-kind : (vs : List ℕ) (k : ℕ) → rowLength (rowOf k) ≤ length s → Within (recordWith k vs)
-  unfolding rowOf recordWith sizeOf headSize
+  unfolding rowOf recordWith sizeOf headSize taskSize
   with-kind vs =
-      by-kind (λ (k : ℕ). rowLength (rowOf k) ≤ length s → Within (recordWith k vs)) (λ h. h) (λ h. h) (λ h. h) (λ h. h) (λ h. h)
+      by-kind (λ (k : ℕ). rowLength (rowOf k) ≤ length s → Within (recordWith k vs)) (λ h. h) (λ h. h) (λ h. h) (λ h. h) (λ h. h) (λ h. h)
       (λ k u h. rw (u .reads vs) (no-record refusal.kind))
 
   of-kind : (kind size : ℕ) → Within (ofKind s kind size)
@@ -58,17 +59,19 @@ size-head (Stated u) = refl
 size-head Asked = refl
 
 pub record-row : (r : Record) → recordBytes r ≡ rowBytes (rowOf (kindOf r)) (headed (rowOf (kindOf r)) (kindOf r) (fieldsOf r))
-unfolding recordBytes headBytes taskBytes pairBytes endBytes rowOf encode
+unfolding recordBytes headBytes taskBytesBy pairBytes endBytes rowOf encode
 record-row (ComponentRecord h) = head-row h (h .capacity)
-record-row (TaskRecord k) = refl
+record-row (TaskRecord true k) = refl
+record-row (TaskRecord false k) = refl
 record-row (PairRecord p) = refl
 record-row (EndRecord n) = refl
 record-row (NoRecord n) = refl
 
 pub size-row : (r : Record) → sizeOf r ≡ rowLength (rowOf (kindOf r))
-unfolding sizeOf headSize rowOf
+unfolding sizeOf headSize taskSize rowOf
 size-row (ComponentRecord h) = size-head (h .capacity)
-size-row (TaskRecord k) = refl
+size-row (TaskRecord true k) = refl
+size-row (TaskRecord false k) = refl
 size-row (PairRecord p) = refl
 size-row (EndRecord n) = refl
 size-row (NoRecord n) = refl

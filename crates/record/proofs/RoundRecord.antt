@@ -1,6 +1,7 @@
 -- A record read is its bytes, and bytes of a record are read as it: both by the laws of rows, which the header's two fields belong to.
 use Prim.Native.Nat.{ℕ, _+_, _^_, _≤_, _<_}
-use mathlib.Core.Path.{_≡_, refl, ap, ap₂, _∙_}
+use mathlib.Core.Path.{_≡_, refl, sym, ap, ap₂, _∙_}
+use mathlib.Core.Bool.{Bool, true, false, false≢true}
 use mathlib.Core.List.{List, [], _∷_, _++_}
 use native.Mathlib.Nat.{zero-add}
 use native.Mathlib.Omega.{arith}
@@ -11,14 +12,14 @@ use Rattle.budget.specs.declared.component.Capacity.{Capacity}
 use Rattle.budget.specs.declared.component.Capacity.the-variants.{Stated, Asked}
 use Rattle.budget.specs.declared.task.Task.{Task}
 use Rattle.budget.specs.Component.{unitsOf}
-use Rattle.budget.specs.Task.{T, C, D}
+use Rattle.budget.specs.Task.{T, C, D, J}
 use Rattle.record.specs.declared.layout.Head.{Head}
 use Rattle.record.specs.declared.layout.Pair.{Pair}
 use Rattle.record.specs.declared.layout.Record.{Record}
 use Rattle.record.specs.declared.layout.Record.the-variants.{ComponentRecord, TaskRecord, PairRecord, EndRecord, NoRecord}
 use Rattle.record.specs.Field.{encode, field, Bytes}
 use Rattle.record.specs.Row.{rowLength, rowBytes, valuesAt}
-use Rattle.record.specs.Layout.{statedRow, askedRow, pairRow, rowOf, framed, headBytes, taskBytes, pairBytes, endBytes, recordBytes, headSize, recordWith, ofKind, recordOf}
+use Rattle.record.specs.Layout.{statedRow, askedRow, pairRow, rowOf, framed, headBytes, taskBytesBy, taskBytes, pairBytes, endBytes, recordBytes, headSize, taskSize, taskOf, recordWith, ofKind, recordOf}
 use Rattle.record.proofs.Cases.{cases}
 use Rattle.record.proofs.RowLaws.{Fit, row-length, values-back, bytes-back, values-fit}
 use Rattle.record.proofs.KindLaws.{by-kind}
@@ -27,10 +28,10 @@ use Rattle.record.proofs.KindLaws.{by-kind}
 abbrev pub head : ℕ → ℕ → Capacity → ℕ → Head
 head number period c deadline = record { number = number; period = record { 0 = period }; capacity = c; deadline = record { 0 = deadline } }
 
--- what a row of bytes is, where a record was read at its front: the record's bytes and then the rest; a component's number and those of a pair are of 2 bytes, and no refusal is 0
+-- what a row of bytes is, where a record was read at its front: the record's bytes and then the rest; a component's number and those of a pair are of 2 bytes, a J that isn't stated is 0, and no refusal is 0
 abbrev pub Faithful : List ℕ → Record → Type 0
 Faithful s (ComponentRecord h) = (h .number < 65_536) × (s ≡ recordBytes (ComponentRecord h) ++ drop (headSize (h .capacity)) s)
-Faithful s (TaskRecord k) = s ≡ taskBytes k ++ drop 16 s
+Faithful s (TaskRecord stated k) = (stated ≡ false → J k ≡ 0) × (s ≡ taskBytesBy stated k ++ drop (taskSize stated) s)
 Faithful s (PairRecord p) = (p .child < 65_536) × ((p .parent < 65_536) × (s ≡ pairBytes p ++ drop 8 s))
 Faithful s (EndRecord n) = s ≡ endBytes n ++ drop 6 s
 Faithful s (NoRecord n) = n ≡ 0 → ⊥
@@ -51,13 +52,14 @@ module _ (s : List ℕ) (bytes : Bytes s) where
       → Faithful s (recordWith k (valuesAt (rowOf k) s 0))
 
   with-kind : (k : ℕ) → Kept k
-  unfolding rowOf recordWith recordBytes headBytes taskBytes pairBytes endBytes headSize encode
+  unfolding rowOf recordWith recordBytes headBytes taskBytesBy pairBytes endBytes headSize taskSize encode
   with-kind =
       by-kind Kept
       (λ l h e f. (values-fit statedRow s 0 bytes .1 .1 .0, opened (2 ∷ 4 ∷ 4 ∷ 4 ∷ 0 ∷ 0 ∷ []) 18 1 h e f))
-      (λ l h e f. opened (4 ∷ 4 ∷ 4 ∷ 0 ∷ 0 ∷ 0 ∷ []) 16 2 h e f)
+      (λ l h e f. (λ n. refl, opened (4 ∷ 4 ∷ 4 ∷ 0 ∷ 0 ∷ 0 ∷ []) 16 2 h e f))
       (λ l h e f. opened (2 ∷ 0 ∷ 0 ∷ 0 ∷ 0 ∷ 0 ∷ []) 6 3 h e f)
       (λ l h e f. (values-fit askedRow s 0 bytes .1 .1 .0, opened (2 ∷ 4 ∷ 4 ∷ 0 ∷ 0 ∷ 0 ∷ []) 14 4 h e f))
+      (λ l h e f. (λ n. absurd (false≢true (sym n)), opened (4 ∷ 4 ∷ 4 ∷ 4 ∷ 0 ∷ 0 ∷ []) 20 5 h e f))
       (λ l h e f. let fit = values-fit pairRow s 0 bytes .1 .1 in (fit .0, (fit .1 .0, opened (2 ∷ 2 ∷ 0 ∷ 0 ∷ 0 ∷ 0 ∷ []) 8 6 h e f)))
       (λ k u l h e f. absurd (l (ap rowLength (u .row))))
 
@@ -93,11 +95,21 @@ module _ (kind : ℕ) (ws fields rest : List ℕ) where
 
 -- of each kind
 module _ (rest : List ℕ) where
-  pub task-back : (k : Task) → T k < 256 ^ 4 → C k < 256 ^ 4 → D k < 256 ^ 4 → recordOf (taskBytes k ++ rest) ≡ TaskRecord k
-  unfolding rowOf taskBytes recordWith
-  task-back k t c d =
+  task-back-by : (stated : Bool) (k : Task) → T k < 256 ^ 4 → C k < 256 ^ 4 → D k < 256 ^ 4 → J k < 256 ^ 4 → (stated ≡ false → J k ≡ 0)
+      → recordOf (taskBytesBy stated k ++ rest) ≡ TaskRecord stated k
+  unfolding rowOf taskBytesBy recordWith
+  task-back-by true k t c d j z =
+      record-back 5 (4 ∷ 4 ∷ 4 ∷ 4 ∷ 0 ∷ 0 ∷ []) (T k ∷ C k ∷ D k ∷ J k ∷ 0 ∷ 0 ∷ []) rest refl
+      (omega arith, (omega arith, (t, (c, (d, (j, (omega arith, (omega arith, tt))))))))
+  task-back-by false k t c d j z =
       record-back 2 (4 ∷ 4 ∷ 4 ∷ 0 ∷ 0 ∷ 0 ∷ []) (T k ∷ C k ∷ D k ∷ 0 ∷ 0 ∷ 0 ∷ []) rest refl
       (omega arith, (omega arith, (t, (c, (d, (omega arith, (omega arith, (omega arith, tt))))))))
+      ∙ ap (λ (n : ℕ). TaskRecord false (taskOf (0 ∷ 0 ∷ T k ∷ C k ∷ D k ∷ []) n)) (sym (z refl))
+
+  -- in the form that is written
+  pub task-back : (k : Task) → T k < 256 ^ 4 → C k < 256 ^ 4 → D k < 256 ^ 4 → J k < 256 ^ 4 → recordOf (taskBytes k ++ rest) ≡ TaskRecord (ltb 0 (J k)) k
+  unfolding taskBytes
+  task-back k t c d j = task-back-by (ltb 0 (J k)) k t c d j (λ n. omega (arith, ltb-false 0 (J k) n))
 
   pub end-back : (n : ℕ) → n < 256 ^ 2 → recordOf (endBytes n ++ rest) ≡ EndRecord n
   unfolding rowOf endBytes recordWith

@@ -1,6 +1,6 @@
 -- The records of a sheet (RULES 10): length, kind and fields. Each kind is a row of widths, and says what its values are.
 use Prim.Native.Nat.{ℕ}
-use mathlib.Core.Bool.{cond}
+use mathlib.Core.Bool.{Bool, true, false, cond}
 use mathlib.Core.List.{List, [], _∷_}
 use lib.ListN.{length, getD}
 use lib.Dec.{ltb, eqb}
@@ -8,7 +8,7 @@ use Rattle.budget.specs.declared.component.Capacity.{Capacity}
 use Rattle.budget.specs.declared.component.Capacity.the-variants.{Stated, Asked}
 use Rattle.budget.specs.declared.task.Task.{Task}
 use Rattle.budget.specs.Refusal as refusal
-use Rattle.budget.specs.Task.{T, C, D}
+use Rattle.budget.specs.Task.{T, C, D, J}
 use Rattle.record.specs.declared.layout.Head.{Head}
 use Rattle.record.specs.declared.layout.Pair.{Pair}
 use Rattle.record.specs.declared.layout.Record.{Record}
@@ -30,6 +30,9 @@ endRow = 2 ∷ 2 ∷ 2 ∷ 0 ∷ 0 ∷ 0 ∷ 0 ∷ 0 ∷ []
 abbrev pub askedRow : List ℕ
 askedRow = 2 ∷ 2 ∷ 2 ∷ 4 ∷ 4 ∷ 0 ∷ 0 ∷ 0 ∷ []
 
+abbrev pub lateRow : List ℕ
+lateRow = 2 ∷ 2 ∷ 4 ∷ 4 ∷ 4 ∷ 4 ∷ 0 ∷ 0 ∷ []
+
 abbrev pub pairRow : List ℕ
 pairRow = 2 ∷ 2 ∷ 2 ∷ 2 ∷ 0 ∷ 0 ∷ 0 ∷ 0 ∷ []
 
@@ -43,7 +46,8 @@ rowOf kind =
     (cond (eqb kind 2) taskRow
     (cond (eqb kind 3) endRow
     (cond (eqb kind 4) askedRow
-    (cond (eqb kind 6) pairRow noRow))))
+    (cond (eqb kind 5) lateRow
+    (cond (eqb kind 6) pairRow noRow)))))
 
 -- ---- the bytes of each record
 
@@ -55,8 +59,14 @@ unfoldable pub headBytes : ℕ → ℕ → Capacity → ℕ → List ℕ
 headBytes number period (Stated u) deadline = framed 1 statedRow (number ∷ period ∷ u .0 ∷ deadline ∷ [])
 headBytes number period Asked deadline = framed 4 askedRow (number ∷ period ∷ deadline ∷ [])
 
+-- a task's record where its J is stated, and where it is not
+unfoldable pub taskBytesBy : Bool → Task → List ℕ
+taskBytesBy true k = framed 5 lateRow (T k ∷ C k ∷ D k ∷ J k ∷ [])
+taskBytesBy false k = framed 2 taskRow (T k ∷ C k ∷ D k ∷ [])
+
+-- each task has one form: its J is stated exactly where it is not 0
 unfoldable pub taskBytes : Task → List ℕ
-taskBytes k = framed 2 taskRow (T k ∷ C k ∷ D k ∷ [])
+taskBytes k = taskBytesBy (ltb 0 (J k)) k
 
 -- the child's number, then its parent's
 unfoldable pub pairBytes : Pair → List ℕ
@@ -67,7 +77,7 @@ endBytes count = framed 3 endRow (count ∷ [])
 
 unfoldable pub recordBytes : Record → List ℕ
 recordBytes (ComponentRecord h) = headBytes (h .number) (h .period .0) (h .capacity) (h .deadline .0)
-recordBytes (TaskRecord k) = taskBytes k
+recordBytes (TaskRecord stated k) = taskBytesBy stated k
 recordBytes (PairRecord p) = pairBytes p
 recordBytes (EndRecord count) = endBytes count
 recordBytes (NoRecord n) = []
@@ -77,9 +87,13 @@ unfoldable pub headSize : Capacity → ℕ
 headSize (Stated u) = rowLength statedRow
 headSize Asked = rowLength askedRow
 
+unfoldable pub taskSize : Bool → ℕ
+taskSize true = rowLength lateRow
+taskSize false = rowLength taskRow
+
 unfoldable pub sizeOf : Record → ℕ
 sizeOf (ComponentRecord h) = headSize (h .capacity)
-sizeOf (TaskRecord k) = rowLength taskRow
+sizeOf (TaskRecord stated k) = taskSize stated
 sizeOf (PairRecord p) = rowLength pairRow
 sizeOf (EndRecord count) = rowLength endRow
 sizeOf (NoRecord n) = 0
@@ -104,8 +118,15 @@ askedOf vs =
       deadline = record { 0 = getD vs 4 0 };
     }
 
-abbrev pub taskOf : List ℕ → Task
-taskOf vs = record { period = record { 0 = getD vs 2 0 }; work = record { 0 = getD vs 3 0 }; deadline = record { 0 = getD vs 4 0 } }
+-- a task whose J is not stated has J = 0
+abbrev pub taskOf : List ℕ → ℕ → Task
+taskOf vs late =
+    record {
+      period = record { 0 = getD vs 2 0 };
+      work = record { 0 = getD vs 3 0 };
+      deadline = record { 0 = getD vs 4 0 };
+      lateness = record { 0 = late };
+    }
 
 abbrev pub pairOf : List ℕ → Pair
 pairOf vs = record { child = getD vs 2 0; parent = getD vs 3 0 }
@@ -114,10 +135,11 @@ pairOf vs = record { child = getD vs 2 0; parent = getD vs 3 0 }
 unfoldable pub recordWith : ℕ → List ℕ → Record
 recordWith kind vs =
     cond (eqb kind 1) (ComponentRecord (statedOf vs))
-    (cond (eqb kind 2) (TaskRecord (taskOf vs))
+    (cond (eqb kind 2) (TaskRecord false (taskOf vs 0))
     (cond (eqb kind 3) (EndRecord (getD vs 2 0))
     (cond (eqb kind 4) (ComponentRecord (askedOf vs))
-    (cond (eqb kind 6) (PairRecord (pairOf vs)) (NoRecord refusal.kind)))))
+    (cond (eqb kind 5) (TaskRecord true (taskOf vs (getD vs 5 0)))
+    (cond (eqb kind 6) (PairRecord (pairOf vs)) (NoRecord refusal.kind))))))
 
 -- ---- the record that begins a row of bytes
 

@@ -2,6 +2,7 @@
 use crate::layout::ASKED;
 use crate::layout::END;
 use crate::layout::Head;
+use crate::layout::LATE;
 use crate::layout::PAIR;
 use crate::layout::Record;
 use crate::layout::STATED;
@@ -89,7 +90,7 @@ fn kind_of(record: Record) -> u16
             let capacity = head.capacity;
             head_kind(capacity)
         }
-        Record::TaskRecord(_) => TASK,
+        Record::TaskRecord(stated, _) => if stated { LATE } else { TASK },
         Record::PairRecord(_) => PAIR,
         Record::EndRecord(_) => END,
         Record::NoRecord(_) => 0,
@@ -121,7 +122,16 @@ fn fields_of(record: Record) -> Values
 {
     match record {
         Record::ComponentRecord(head) => head_fields(head),
-        Record::TaskRecord(task) => [0, 0, task.period.0, task.work.0, task.deadline.0, 0, 0, 0],
+        Record::TaskRecord(_, task) => [
+            0,
+            0,
+            task.period.0,
+            task.work.0,
+            task.deadline.0,
+            task.lateness.0,
+            0,
+            0,
+        ],
         Record::PairRecord(pair) => [0, 0, pair.child as u32, pair.parent as u32, 0, 0, 0, 0],
         Record::EndRecord(count) => [0, 0, count as u32, 0, 0, 0, 0, 0],
         Record::NoRecord(_) => [0, 0, 0, 0, 0, 0, 0, 0],

@@ -77,14 +77,14 @@ work-is-served-or-left ks js s (suc t) =
 
 pub walk-conserves : WalkConserves
 unfolding walkedTo validTrace
-walk-conserves table ts rs ws s left e =
-    let a = accepted table ts rs ws s (length left) e in
+walk-conserves table ts rs ready ws s left e =
+    let a = accepted table ts rs ready ws s (length left) e in
     let ks = tasksOf table in
-    let js = jobsOf ts rs ws in
-    let l = lists ts rs ws (a .releases-long) (a .works-long) in
+    let js = jobsOf ts rs ready ws in
+    let l = lists ts rs ready ws (a .releases-long) (a .ready-long) (a .works-long) in
     record {
-      slots = rw (answer-accepted table ts rs ws s (length left) e) (slots-are-served-or-idle ks js s (a .bits) (stop ks js s));
+      slots = rw (answer-accepted table ts rs ready ws s (length left) e) (slots-are-served-or-idle ks js s (a .bits) (stop ks js s));
       work =
-          rw (answer-accepted table ts rs ws s (length left) e, left-accepted table ts rs ws s left e)
+          rw (answer-accepted table ts rs ready ws s (length left) e, left-accepted table ts rs ready ws s left e)
           (ap total (sym (l .works)) ∙ work-is-served-or-left ks js s (stop ks js s));
     }

@@ -147,8 +147,8 @@ module _ (ks : List Task) (js : List Job) (s : List ℕ) where
 -- the jobs of a call that is taken have tasks that are there
 pub walk-tells-first-miss : WalkTellsFirstMiss
 unfolding walkedTo missOf
-walk-tells-first-miss table ts rs ws s room e =
-    let a = accepted table ts rs ws s room e in
+walk-tells-first-miss table ts rs ready ws s room e =
+    let a = accepted table ts rs ready ws s room e in
     let ks = tasksOf table in
-    let js = jobsOf ts rs ws in
-    rw (answer-accepted table ts rs ws s room e) (says ks js s (task-few table ts rs ws s room a) _ _ refl refl)
+    let js = jobsOf ts rs ready ws in
+    rw (answer-accepted table ts rs ready ws s room e) (says ks js s (task-few table ts rs ready ws s room a) _ _ refl refl)

@@ -8,24 +8,27 @@ use mathlib.Core.Bool.{Bool, true, false, _&&_}
 use mathlib.Core.List.{List, [], _∷_, map}
 use lib.ListN.{length, getD, drop, drop-of-length-le, length-map}
 use lib.Dec.{leb, ltb}
+use lib.IntN.{ℤ, pos, _+ℤ_}
+use lib.Signed.{leZ, ltZ}
 use lib.Seq.{getD-take, ext-getD}
 use borrow.Author.Tests.{ltb-true}
 use Rattle.budget.specs.declared.task.Task.{Task}
 use Rattle.budget.specs.declared.task.Table.{Table}
-use Rattle.budget.specs.Task.{T, C, D, noTask, tasksOf}
+use Rattle.budget.specs.Task.{T, C, J, noTask, tasksOf}
 use Rattle.budget.proofs.Places.{places}
-use Rattle.run.specs.inner.Columns.{Tasks, Releases, Works}
-use Rattle.run.specs.Job.{Job, taskOf, deadline, inOrder, apart, validJob, beforeAll, legalArrival, noJob}
-use Rattle.run.specs.inner.Scan.{follows}
+use Rattle.run.specs.inner.Columns.{Tasks, Releases, Readiness, Works}
+use Rattle.run.specs.Job.{Job, taskOf, deadline, inOrder, apart, readyInTime, validJob, beforeAll, legalArrival, noJob}
+use Rattle.run.specs.inner.Scan.{Shifted, dueOf, follows}
 use Rattle.run.specs.Walk.{jobsOf, releasedBefore}
-use Rattle.run.proofs.Scans.{column, column-length, cut}
+use Rattle.run.proofs.Scans.{column, column-length, cut, release-at}
+use Rattle.run.proofs.Shifted.{shifted-le, shifted-lt, shifted-on}
 
-pub released-from : (end : ℕ) (rs : List ℕ) (k : ℕ) → k < length rs
-    → releasedBefore end (drop k rs) ≡ (ltb (getD rs k 0) end && releasedBefore end (drop (k + 1) rs))
+pub released-from : (end : ℕ) (rs : List ℤ) (k : ℕ) → k < length rs
+    → releasedBefore end (drop k rs) ≡ (ltZ (getD rs k (pos 0)) (pos end) && releasedBefore end (drop (k + 1) rs))
 unfolding releasedBefore
-released-from end rs k h = ap (releasedBefore end) (cut rs k (k + 1) 0 (sym (add-one k)) h)
+released-from end rs k h = ap (releasedBefore end) (cut rs k (k + 1) (pos 0) (sym (add-one k)) h)
 
-pub released-end : (end : ℕ) (rs : List ℕ) (k : ℕ) → length rs ≤ k → releasedBefore end (drop k rs) ≡ true
+pub released-end : (end : ℕ) (rs : List ℤ) (k : ℕ) → length rs ≤ k → releasedBefore end (drop k rs) ≡ true
 unfolding releasedBefore
 released-end end rs k h = ap (releasedBefore end) (drop-of-length-le rs h)
 
@@ -34,14 +37,23 @@ and-assoc true b c = refl
 and-assoc false b c = refl
 
 module _ (ks : List Task) (js : List Job) where
-  pub before-from : (ts rs : List ℕ) → Tasks js ts → Releases js rs
-      → (i k : ℕ) → i < length js → k < length js
+  -- the two releases are compared as counted from the earliest slot
+  pub before-from : (ts : List ℕ) (rs : List ℤ) → Tasks js ts → Releases js rs
+      → (i k : ℕ) → i < length js → k < length js → (m n : ℕ) → Shifted (getD rs i (pos 0)) m → Shifted (getD rs k (pos 0)) n
       → beforeAll ks (getD js i noJob) (drop k js)
-      ≡ (follows (T (taskOf ks (getD js i noJob))) (getD ts i 0) (getD rs i 0) (getD ts k 0) (getD rs k 0) && beforeAll ks (getD js i noJob) (drop (k + 1) js))
+      ≡ (follows (T (taskOf ks (getD js i noJob))) (getD ts i 0) m (getD ts k 0) n && beforeAll ks (getD js i noJob) (drop (k + 1) js))
   unfolding beforeAll inOrder apart follows
-  before-from ts rs tasks releases i k hi hk =
+  before-from ts rs tasks releases i k hi hk m n first later =
       ap (beforeAll ks (getD js i noJob)) (cut js k (k + 1) noJob (sym (add-one k)) hk)
-      ∙ rw (column (λ j. j .task) js ts tasks i hi, column (λ j. j .release) js rs releases i hi, column (λ j. j .task) js ts tasks k hk, column (λ j. j .release) js rs releases k hk)
+      ∙ rw (
+        column (λ j. j .task) js ts tasks i hi,
+        release-at js rs releases i hi,
+        column (λ j. j .task) js ts tasks k hk,
+        release-at js rs releases k hk,
+        shifted-lt first later,
+        shifted-le first later,
+        shifted-le (shifted-on first (T (taskOf ks (getD js i noJob)))) later,
+      )
 
   pub before-end : (a : Job) (k : ℕ) → length js ≤ k → beforeAll ks a (drop k js) ≡ true
   unfolding beforeAll
@@ -72,25 +84,37 @@ module _ (table : Table) (fits : table .count ≤ length (table .tasks)) (js : L
   unfolding taskOf tasksOf
   task-at there = rw (column (λ j. j .task) js ts tasks i h, getD-take (table .count) (table .tasks) (getD ts i 0) noTask there)
 
-  pub deadline-at : (rs : List ℕ) → Releases js rs → getD ts i 0 < table .count
-      → deadline (tasksOf table) (getD js i noJob) ≡ getD rs i 0 + D (getD (table .tasks) (getD ts i 0) noTask)
+  pub deadline-at : (rs : List ℤ) → Releases js rs → getD ts i 0 < table .count → deadline (tasksOf table) (getD js i noJob) ≡ dueOf (table .tasks) ts rs i
   unfolding deadline
-  deadline-at rs releases there = rw (task-at there, column (λ j. j .release) js rs releases i h)
+  deadline-at rs releases there = rw (task-at there, release-at js rs releases i h)
 
-  pub valid-at : (ws : List ℕ) → Works js ws
-      → validJob (tasksOf table) (getD js i noJob)
-      ≡ (ltb (getD ts i 0) (table .count) && (leb 1 (getD ws i 0) && leb (getD ws i 0) (C (getD (table .tasks) (getD ts i 0) noTask))))
-  unfolding validJob
-  valid-at ws works =
-      rw (column (λ j. j .task) js ts tasks i h, column (λ j. j .work) js ws works i h, tasks-length table fits)
+  pub valid-at : (rs : List ℤ) (ready ws : List ℕ) → Releases js rs → Readiness js ready → Works js ws
+      → let k = getD (table .tasks) (getD ts i 0) noTask in
+      let r = getD rs i (pos 0) in
+      let a = pos (getD ready i 0) in
+      let w = getD ws i 0 in
+      validJob (tasksOf table) (getD js i noJob) ≡ (ltb (getD ts i 0) (table .count) && ((leb 1 w && leb w (C k)) && (leZ r a && leZ a (r +ℤ pos (J k)))))
+  unfolding validJob readyInTime
+  valid-at rs ready ws releases readiness works =
+      rw (
+        column (λ j. j .task) js ts tasks i h,
+        release-at js rs releases i h,
+        column (λ j. j .ready) js ready readiness i h,
+        column (λ j. j .work) js ws works i h,
+        tasks-length table fits,
+      )
       (and-same (ltb (getD ts i 0) (table .count)) _ _
-      (λ there. ap (λ (k : Task). leb 1 (getD ws i 0) && leb (getD ws i 0) (C k)) (task-at (ltb-true _ _ there))))
+      (λ there.
+      ap
+      (λ (k : Task). (leb 1 (getD ws i 0) && leb (getD ws i 0) (C k))
+      && (leZ (getD rs i (pos 0)) (pos (getD ready i 0)) && leZ (pos (getD ready i 0)) (getD rs i (pos 0) +ℤ pos (J k))))
+      (task-at (ltb-true _ _ there))))
 
 -- a list that has each job's deadline is the column of deadlines
-pub due-column : (table : Table) → table .count ≤ length (table .tasks) → (js : List Job) (ts rs due : List ℕ)
+pub due-column : (table : Table) → table .count ≤ length (table .tasks) → (js : List Job) (ts : List ℕ) (rs : List ℤ) (due : List ℕ)
     → Tasks js ts → Releases js rs → length due ≡ length ts
     → ((k : ℕ) → k < length ts → getD ts k 0 < table .count)
-    → ((k : ℕ) → k < length ts → getD due k 0 ≡ getD rs k 0 + D (getD (table .tasks) (getD ts k 0) noTask))
+    → ((k : ℕ) → k < length ts → getD due k 0 ≡ dueOf (table .tasks) ts rs k)
     → due ≡ map (deadline (tasksOf table)) js
 due-column table fits js ts rs due tasks releases same there each =
     let long = column-length _ js _ tasks in
@@ -101,22 +125,26 @@ due-column table fits js ts rs due tasks releases same there each =
     each k ht ∙ sym (deadline-at table fits js ts tasks k hj rs releases (there k ht)) ∙ column _ js _ refl k hj)
 
 -- job lists of one length are the columns of their jobs
-pub record Lists (ts rs ws : List ℕ) : Type 0 where
-  pub tasks : map (λ j. j .task) (jobsOf ts rs ws) ≡ ts
-  pub releases : map (λ j. j .release) (jobsOf ts rs ws) ≡ rs
-  pub works : map (λ j. j .work) (jobsOf ts rs ws) ≡ ws
+pub record Lists (ts : List ℕ) (rs : List ℤ) (ready ws : List ℕ) : Type 0 where
+  pub tasks : Tasks (jobsOf ts rs ready ws) ts
+  pub releases : Releases (jobsOf ts rs ready ws) rs
+  pub readiness : Readiness (jobsOf ts rs ready ws) ready
+  pub works : Works (jobsOf ts rs ready ws) ws
 
-pub lists : (ts rs ws : List ℕ) → length rs ≡ length ts → length ws ≡ length ts → Lists ts rs ws
+pub lists : (ts : List ℕ) (rs : List ℤ) (ready ws : List ℕ) → length rs ≡ length ts → length ready ≡ length ts → length ws ≡ length ts → Lists ts rs ready ws
 unfolding jobsOf
-lists [] [] [] e f = record { tasks = refl; releases = refl; works = refl }
-lists [] [] (w ∷ ws) e f = absurd (omega (arith, f))
-lists [] (r ∷ rs) ws e f = absurd (omega (arith, e))
-lists (t ∷ ts) [] ws e f = absurd (omega (arith, e))
-lists (t ∷ ts) (r ∷ rs) [] e f = absurd (omega (arith, f))
-lists (t ∷ ts) (r ∷ rs) (w ∷ ws) e f =
-    let l = lists ts rs ws (suc-inj e) (suc-inj f) in
+lists [] [] [] [] e f g = record { tasks = refl; releases = refl; readiness = refl; works = refl }
+lists [] [] [] (w ∷ ws) e f g = absurd (omega (arith, g))
+lists [] [] (a ∷ ready) ws e f g = absurd (omega (arith, f))
+lists [] (r ∷ rs) ready ws e f g = absurd (omega (arith, e))
+lists (t ∷ ts) [] ready ws e f g = absurd (omega (arith, e))
+lists (t ∷ ts) (r ∷ rs) [] ws e f g = absurd (omega (arith, f))
+lists (t ∷ ts) (r ∷ rs) (a ∷ ready) [] e f g = absurd (omega (arith, g))
+lists (t ∷ ts) (r ∷ rs) (a ∷ ready) (w ∷ ws) e f g =
+    let l = lists ts rs ready ws (suc-inj e) (suc-inj f) (suc-inj g) in
     record {
       tasks = ap (λ (xs : List ℕ). t ∷ xs) (l .tasks);
-      releases = ap (λ (xs : List ℕ). r ∷ xs) (l .releases);
+      releases = ap (λ (xs : List ℤ). r ∷ xs) (l .releases);
+      readiness = ap (λ (xs : List ℕ). a ∷ xs) (l .readiness);
       works = ap (λ (xs : List ℕ). w ∷ xs) (l .works);
     }

@@ -4,10 +4,13 @@ pub mod Conservation
 pub mod Filled
 pub mod FirstMiss
 pub mod JobRules
+pub mod Latest
 pub mod LeastFirst
 pub mod Next
 pub mod RunLaws
 pub mod Scans
 pub mod Service
+pub mod Shifted
 pub mod Slots
 pub mod Walking
+pub mod LateJobs

@@ -10,7 +10,7 @@ use borrow.Author.Tests.{leb-true, leb-false, ltb-true, not-true, not-false, le-
 use native.Mathlib.Nat.{not-suc-le-zero, le-of-suc-le-suc, le-refl}
 use native.Mathlib.Omega.{arith}
 use Rattle.budget.proofs.Valid.{and-true, both}
-use Rattle.run.specs.Job.{Job, noJob, ready}
+use Rattle.run.specs.Job.{Job, noJob}
 use Rattle.run.specs.Order.{Order, waits, headFirst, nextBy}
 
 pub neither : (a b : Bool) → (a || b) ≡ false → (a ≡ false) × (b ≡ false)
@@ -27,12 +27,12 @@ either false b e p = e
 
 -- what it is to wait, in numbers
 pub record Waits (n : ℕ) (j : Job) (left : ℕ) : Type 0 where
-  pub is-ready : ready j ≤ n
+  pub is-ready : j .ready ≤ n
   pub some : 0 < left
 
 pub waits-then : (n : ℕ) (j : Job) (left : ℕ) → waits n j left ≡ true → Waits n j left
 unfolding waits
-waits-then n j left e = record { is-ready = leb-true _ _ (both _ _ e .0); some = ltb-true _ _ (both (leb (ready j) n) _ e .1) }
+waits-then n j left e = record { is-ready = leb-true _ _ (both _ _ e .0); some = ltb-true _ _ (both (leb (j .ready) n) _ e .1) }
 
 pub then-waits : (n : ℕ) (j : Job) (left : ℕ) → Waits n j left → waits n j left ≡ true
 unfolding waits

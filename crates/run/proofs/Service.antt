@@ -1,5 +1,5 @@
 -- The place that `next` finds is the one that the rules serve, and the only one: two jobs that neither goes before are of one task and have
--- one deadline, so one release, and two jobs of a task lie T apart.
+-- one deadline, so one latest readiness, and those of two jobs of a task lie T apart.
 use Prim.Native.Nat.{ℕ, _<_}
 use mathlib.Core.Bool.{true}
 use mathlib.Core.List.{List}
@@ -9,13 +9,14 @@ use native.Mathlib.Decide.{decLt}
 use native.Mathlib.Nat.{le-antisymm}
 use native.Mathlib.Omega.{arith}
 use Rattle.budget.specs.declared.task.Task.{Task}
-use Rattle.budget.specs.Task.{D, noTask, validTasks}
+use Rattle.budget.specs.Task.{noTask, span, validTasks}
 use Rattle.budget.proofs.Valid.{valid-at}
 use Rattle.run.specs.Job.{Job, deadline, legalArrival, taskOf, noJob}
 use Rattle.run.specs.Service.{OneServed, Serves, SlotServes}
 use Rattle.run.specs.Order.{goesBefore}
 use Rattle.run.proofs.LeastFirst.{decides, not-before}
-use Rattle.run.proofs.Arrival.{apart-pair, arrival-at}
+use Rattle.run.proofs.Arrival.{apart-pair, valid-in, valid-job}
+use Rattle.run.proofs.Latest.{due-of-latest, latest-apart}
 use Rattle.run.proofs.Next.{next-first, next-found, next-most, next-waits}
 
 pub slot-serves : SlotServes
@@ -31,11 +32,21 @@ module _ (ks : List Task) (js : List Job) (valid : validTasks ks ≡ true) (lega
   -- two jobs of one task with one deadline are one
   not-twice : (p q : ℕ) → p < q → q < length js → (getD js p noJob) .task ≡ (getD js q noJob) .task
       → deadline ks (getD js p noJob) ≡ deadline ks (getD js q noJob) → ⊥
-  unfolding deadline taskOf
+  unfolding taskOf
   not-twice p q h l same due =
-      let v = valid-at ks valid _ (arrival-at ks js legal p (omega arith) .numbered) in
-      let d = ap (λ (k : ℕ). D (getD ks k noTask)) same in
-      omega (arith, apart-pair ks js legal p q h l same, v .works, v .fits, v .within)
+      let a = valid-in ks js legal p (omega arith) in
+      let b = valid-in ks js legal q l in
+      let k = valid-at ks valid _ (valid-job ks _ a .numbered) in
+      let spans = ap (λ (n : ℕ). span (getD ks n noTask)) same in
+      omega (
+        arith,
+        latest-apart ks _ _ a b same (apart-pair ks js legal p q h l),
+        due-of-latest ks valid _ a,
+        due-of-latest ks valid _ b,
+        k .works,
+        k .fits,
+        k .within,
+      )
 
   not-earlier : (p q : ℕ) → Serves (goesBefore ks) n js left p → Serves (goesBefore ks) n js left q → p < q → Dec (q < length js) → ⊥
   not-earlier p q x y h (yes l) =

@@ -4,6 +4,7 @@ use Prim.Native.Nat.{ℕ, _+_}
 use mathlib.Core.Bool.{true}
 use mathlib.Core.List.{List, [], _∷_, map}
 use mathlib.Core.Path.{_≡_}
+use lib.IntN.{ℤ}
 use lib.ListN.{length, take}
 use Rattle.budget.specs.declared.task.Table.{Table}
 use Rattle.budget.specs.declared.task.Task.{Task}
@@ -30,11 +31,12 @@ WorkIsServedOrLeft =
     (ks : List Task) (js : List Job) (s : List ℕ) (t : ℕ) → total (map (λ j. j .work) js) ≡ servedBefore ks js s t + total (leftAt ks js s t)
 
 -- of what the walk answers and leaves in the buffer
-pub record Conserved (table : Table) (ts rs ws s left : List ℕ) : Type 0 where
-  pub slots : supplied (take (stop (tasksOf table) (jobsOf ts rs ws) s) s)
-      ≡ walkAnswer table ts rs ws s (length left) .served .0 + walkAnswer table ts rs ws s (length left) .idle .0
-  pub work : total ws ≡ walkAnswer table ts rs ws s (length left) .served .0 + total (leftAfter table ts rs ws s left)
+pub record Conserved (table : Table) (ts : List ℕ) (rs : List ℤ) (ready ws s left : List ℕ) : Type 0 where
+  pub slots : supplied (take (stop (tasksOf table) (jobsOf ts rs ready ws) s) s)
+      ≡ walkAnswer table ts rs ready ws s (length left) .served .0 + walkAnswer table ts rs ready ws s (length left) .idle .0
+  pub work : total ws ≡ walkAnswer table ts rs ready ws s (length left) .served .0 + total (leftAfter table ts rs ready ws s left)
 
 abbrev pub WalkConserves : Type 0
 WalkConserves =
-    (table : Table) (ts rs ws s left : List ℕ) → walkRefusal table ts rs ws s (length left) ≡ refusal.none → Conserved table ts rs ws s left
+    (table : Table) (ts : List ℕ) (rs : List ℤ) (ready ws s left : List ℕ) → walkRefusal table ts rs ready ws s (length left) ≡ refusal.none
+    → Conserved table ts rs ready ws s left

@@ -2,6 +2,7 @@
 use Prim.Native.Nat.{ℕ, _≤_, _<_}
 use mathlib.Core.List.{List}
 use mathlib.Core.Path.{_≡_}
+use lib.IntN.{ℤ}
 use lib.ListN.{length, getD}
 use Rattle.budget.specs.declared.task.Table.{Table}
 use Rattle.budget.specs.declared.task.Task.{Task}
@@ -32,7 +33,7 @@ Says ks js s t None = (t ≡ length s) × NoMiss ks js s
 
 abbrev pub WalkTellsFirstMiss : Type 0
 WalkTellsFirstMiss =
-    (table : Table) (ts rs ws s : List ℕ) (room : ℕ) → walkRefusal table ts rs ws s room ≡ refusal.none
+    (table : Table) (ts : List ℕ) (rs : List ℤ) (ready ws s : List ℕ) (room : ℕ) → walkRefusal table ts rs ready ws s room ≡ refusal.none
     → let ks = tasksOf table in
-    let js = jobsOf ts rs ws in
-    Says ks js s (stop ks js s) (walkAnswer table ts rs ws s room .miss)
+    let js = jobsOf ts rs ready ws in
+    Says ks js s (stop ks js s) (walkAnswer table ts rs ready ws s room .miss)

@@ -1,6 +1,7 @@
 pub mod Conservation
 pub mod FirstMiss
 pub mod Job
+pub mod LateJobs
 pub mod Order
 pub mod Run
 pub mod Service

@@ -5,11 +5,11 @@ use mathlib.Core.List.{List, [], _∷_}
 use lib.ListN.{length, getD}
 use lib.Dec.{leb, ltb, eqb}
 use Rattle.budget.specs.declared.task.Task.{Task}
-use Rattle.run.specs.Job.{Job, deadline, noJob, ready}
+use Rattle.run.specs.Job.{Job, deadline, noJob}
 
 -- a job waits in slot n: it is ready and has work left
 unfoldable pub waits : ℕ → Job → ℕ → Bool
-waits n j left = leb (ready j) n && ltb 0 left
+waits n j left = leb (j .ready) n && ltb 0 left
 
 -- an order of service: whether the one of two jobs goes before the other
 abbrev pub Order : Type 0

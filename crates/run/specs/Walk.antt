@@ -4,6 +4,8 @@ use mathlib.Core.Bool.{Bool, true, cond, _&&_}
 use mathlib.Core.List.{List, [], _∷_}
 use lib.ListN.{length, getD}
 use lib.Dec.{leb, ltb, eqb}
+use lib.IntN.{ℤ, pos}
+use lib.Signed.{ltZ}
 use Rattle.budget.specs.declared.task.Table.{Table}
 use Rattle.budget.specs.declared.task.Task.{Task}
 use Rattle.budget.specs.Limits.{most-tasks}
@@ -22,24 +24,26 @@ use Rattle.trace.specs.Legal.{zerosAndOnes}
 abbrev pub most-jobs : ℕ
 most-jobs = 1_024
 
--- the jobs, given as the lists of their tasks, releases and works
-unfoldable pub jobsOf : List ℕ → List ℕ → List ℕ → List Job
-jobsOf [] rs ws = []
-jobsOf (t ∷ ts) [] ws = []
-jobsOf (t ∷ ts) (r ∷ rs) [] = []
-jobsOf (t ∷ ts) (r ∷ rs) (w ∷ ws) = record { task = t; release = r; work = w } ∷ jobsOf ts rs ws
+-- the jobs, given as the lists of their tasks, releases, readiness slots and works
+unfoldable pub jobsOf : List ℕ → List ℤ → List ℕ → List ℕ → List Job
+jobsOf [] rs ready ws = []
+jobsOf (t ∷ ts) [] ready ws = []
+jobsOf (t ∷ ts) (r ∷ rs) [] ws = []
+jobsOf (t ∷ ts) (r ∷ rs) (a ∷ ready) [] = []
+jobsOf (t ∷ ts) (r ∷ rs) (a ∷ ready) (w ∷ ws) = record { task = t; release = r; ready = a; work = w } ∷ jobsOf ts rs ready ws
 
--- every release lies inside the trace
-unfoldable pub releasedBefore : ℕ → List ℕ → Bool
+-- every release lies before the trace's end; a readiness may lie behind it
+unfoldable pub releasedBefore : ℕ → List ℤ → Bool
 releasedBefore end [] = true
-releasedBefore end (r ∷ rs) = ltb r end && releasedBefore end rs
+releasedBefore end (r ∷ rs) = ltZ r (pos end) && releasedBefore end rs
 
 -- the job lists keep the rules of the run: of one length, not too many, a legal arrival, released before the trace ends
-unfoldable pub validJobs : List Task → List ℕ → List ℕ → List ℕ → ℕ → Bool
-validJobs ks ts rs ws end =
+unfoldable pub validJobs : List Task → List ℕ → List ℤ → List ℕ → List ℕ → ℕ → Bool
+validJobs ks ts rs ready ws end =
     eqb (length rs) (length ts)
+    && (eqb (length ready) (length ts)
     && (eqb (length ws) (length ts)
-    && (leb (length ts) most-jobs && (releasedBefore end rs && legalArrival ks (jobsOf ts rs ws))))
+    && (leb (length ts) most-jobs && (releasedBefore end rs && legalArrival ks (jobsOf ts rs ready ws)))))
 
 -- a trace that is taken: not too long, and of zeros and ones
 unfoldable pub validTrace : List ℕ → Bool
@@ -47,10 +51,10 @@ validTrace s = leb (length s) longest && zerosAndOnes s
 
 -- the table is judged first (6, 9), then the jobs (12, also for unequal or too long lists), the trace (13) and the room (11) (RULES 13); room is
 -- the length of the work-left buffer
-unfoldable pub walkRefusal : Table → List ℕ → List ℕ → List ℕ → List ℕ → ℕ → ℕ
-walkRefusal table ts rs ws s room =
+unfoldable pub walkRefusal : Table → List ℕ → List ℤ → List ℕ → List ℕ → List ℕ → ℕ → ℕ
+walkRefusal table ts rs ready ws s room =
     cond (eqb (tableRefusal table) refusal.none)
-    (cond (validJobs (tasksOf table) ts rs ws (length s))
+    (cond (validJobs (tasksOf table) ts rs ready ws (length s))
     (cond (validTrace s)
     (cond (eqb room (length ts)) refusal.none refusal.room)
     refusal.bad-trace)
@@ -119,19 +123,19 @@ unfoldable pub refusedWalk : ℕ → Walked
 refusedWalk n = record { refusal = n; miss = None; served = record { 0 = 0 }; idle = record { 0 = 0 } }
 
 -- what the walk answers
-unfoldable pub walkAnswer : Table → List ℕ → List ℕ → List ℕ → List ℕ → ℕ → Walked
-walkAnswer table ts rs ws s room =
-    let n = walkRefusal table ts rs ws s room in
+unfoldable pub walkAnswer : Table → List ℕ → List ℤ → List ℕ → List ℕ → List ℕ → ℕ → Walked
+walkAnswer table ts rs ready ws s room =
+    let n = walkRefusal table ts rs ready ws s room in
     let ks = tasksOf table in
-    let js = jobsOf ts rs ws in
+    let js = jobsOf ts rs ready ws in
     let walked = walkedTo ks js s (stop ks js s) in
     cond (eqb n refusal.none) walked (refusedWalk n)
 
 -- the work-left buffer as the walk leaves it: the work left of each job at the stop; a refusal writes nothing
-unfoldable pub leftAfter : Table → List ℕ → List ℕ → List ℕ → List ℕ → List ℕ → List ℕ
-leftAfter table ts rs ws s left =
-    let n = walkRefusal table ts rs ws s (length left) in
+unfoldable pub leftAfter : Table → List ℕ → List ℤ → List ℕ → List ℕ → List ℕ → List ℕ → List ℕ
+leftAfter table ts rs ready ws s left =
+    let n = walkRefusal table ts rs ready ws s (length left) in
     let ks = tasksOf table in
-    let js = jobsOf ts rs ws in
+    let js = jobsOf ts rs ready ws in
     let after = leftAt ks js s (stop ks js s) in
     cond (eqb n refusal.none) after left

@@ -1,4 +1,4 @@
-// One slot of the run: which job is served, and which is late. The jobs are columns of numbers: deadlines, tasks, releases, work left.
+// One slot of the run: which job is served, and which is late. The jobs are columns of numbers: deadlines, tasks, readiness slots, work left.
 ghost use Prim.Native.Nat.{_+_, _≤_, _<_};
 ghost use mathlib.Core.Bool.{cond, _&&_};
 ghost use mathlib.Core.List.{List};
@@ -6,7 +6,7 @@ ghost use mathlib.Core.Path.{_≡_};
 ghost use lib.Dec.{ltb, eqb};
 ghost use lib.ListN.{length, getD};
 ghost use Rattle.budget.specs.declared.task.Task.{Task};
-ghost use Rattle.run.specs.inner.Columns.{Deadlines, Tasks, Releases};
+ghost use Rattle.run.specs.inner.Columns.{Deadlines, Tasks, Readiness};
 ghost use Rattle.run.specs.Job.{Job};
 ghost use Rattle.run.specs.Order.{next};
 ghost use Rattle.run.specs.inner.Scan.{Slotted, takesOver};
@@ -19,16 +19,16 @@ pub const NO_TASK: u32 = 64;
 fn first_of(
     due: &[u32],
     tasks: &[u32],
-    releases: &[u32],
+    ready: &[u32],
     left: &[u32],
     n: u32,
     i: usize,
     first: usize,
 ) -> usize
-    requires { ⌜ (length (now due) ≡ length (now left)) × (length (now tasks) ≡ length (now left)) × (length (now releases) ≡ length (now left)) × (i < length (now left)) ⌝ }
-    ensures { λ r. ⌜ r ≡ cond (takesOver (now (due .entry)) (now (tasks .entry)) (now (releases .entry)) (now (left .entry)) n i first) i first ⌝ }
+    requires { ⌜ (length (now due) ≡ length (now left)) × (length (now tasks) ≡ length (now left)) × (length (now ready) ≡ length (now left)) × (i < length (now left)) ⌝ }
+    ensures { λ r. ⌜ r ≡ cond (takesOver (now (due .entry)) (now (tasks .entry)) (now (ready .entry)) (now (left .entry)) n i first) i first ⌝ }
 {
-    if n < releases[i] {
+    if n < ready[i] {
         return first;
     }
     if left[i] == 0 {
@@ -50,16 +50,16 @@ fn first_of(
 }
 
 // The place of the job that a supplied slot n serves, or the count of jobs where none waits.
-fn choose(due: &[u32], tasks: &[u32], releases: &[u32], left: &[u32], n: u32) -> usize
-    requires { ⌜ (length (now due) ≡ length (now left)) × (length (now tasks) ≡ length (now left)) × (length (now releases) ≡ length (now left)) ⌝ }
-    ensures { λ r. ⌜ ((ks : List Task) (js : List Job) → Deadlines ks js (now (due .entry)) → Tasks js (now (tasks .entry)) → Releases js (now (releases .entry)) → r ≡ next ks n js (now (left .entry))) ⌝ }
+fn choose(due: &[u32], tasks: &[u32], ready: &[u32], left: &[u32], n: u32) -> usize
+    requires { ⌜ (length (now due) ≡ length (now left)) × (length (now tasks) ≡ length (now left)) × (length (now ready) ≡ length (now left)) ⌝ }
+    ensures { λ r. ⌜ ((ks : List Task) (js : List Job) → Deadlines ks js (now (due .entry)) → Tasks js (now (tasks .entry)) → Readiness js (now (ready .entry)) → r ≡ next ks n js (now (left .entry))) ⌝ }
     ensures waiting { λ r. ⌜ (r < length (now (left .entry)) → 0 < getD (now (left .entry)) r 0) ⌝ }
 {
     let mut first = left.len();
     let mut i = left.len();
     while 0 < i {
         i -= 1;
-        first = first_of(due, tasks, releases, left, n, i, first);
+        first = first_of(due, tasks, ready, left, n, i, first);
     }
     first
 }
@@ -104,19 +104,19 @@ pub struct Given {
 pub(crate) fn serve_slot(
     due: &[u32],
     tasks: &[u32],
-    releases: &[u32],
+    ready: &[u32],
     byte: u8,
     n: u32,
     left: &mut [u32],
 ) -> Given
-    requires { ⌜ (length (now due) ≡ length (now left)) × (length (now tasks) ≡ length (now left)) × (length (now releases) ≡ length (now left)) ⌝ }
-    ensures { λ r. ⌜ ((ks : List Task) (js : List Job) → Deadlines ks js (now (due .entry)) → Tasks js (now (tasks .entry)) → Releases js (now (releases .entry)) → Slotted ks js n byte (now (left .entry)) (now (left .exit)) (r .served) (r .idle)) ⌝ }
+    requires { ⌜ (length (now due) ≡ length (now left)) × (length (now tasks) ≡ length (now left)) × (length (now ready) ≡ length (now left)) ⌝ }
+    ensures { λ r. ⌜ ((ks : List Task) (js : List Job) → Deadlines ks js (now (due .entry)) → Tasks js (now (tasks .entry)) → Readiness js (now (ready .entry)) → Slotted ks js n byte (now (left .entry)) (now (left .exit)) (r .served) (r .idle)) ⌝ }
     ensures single { λ r. ⌜ r .served + r .idle ≤ 1 ⌝ }
 {
     if byte == 0 {
         return Given { served: 0, idle: 0 };
     }
-    let at = choose(due, tasks, releases, left, n);
+    let at = choose(due, tasks, ready, left, n);
     if left.len() <= at {
         return Given { served: 0, idle: 1 };
     }

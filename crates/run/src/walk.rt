@@ -18,7 +18,7 @@ ghost use mathlib.Core.List.{List};
 ghost use mathlib.Core.Path.{_≡_};
 ghost use lib.ListN.{length};
 ghost use Rattle.budget.specs.declared.task.Task.{Task};
-ghost use Rattle.run.specs.inner.Columns.{Deadlines, Tasks, Releases, Works};
+ghost use Rattle.run.specs.inner.Columns.{Deadlines, Tasks, Readiness, Works};
 ghost use Rattle.run.specs.Job.{Job};
 ghost use Rattle.run.specs.Run.{leftAt};
 ghost use Rattle.run.specs.Walk.{missOf, stop, walkedTo, walkRefusal, walkAnswer, leftAfter};
@@ -48,15 +48,9 @@ fn miss_of(t: u32, late: u32) -> Miss
 }
 
 // The walk over the slots. The work left is each job's whole work at first, and its work left at the stop at last.
-fn walk_slots(
-    due: &[u32],
-    tasks: &[u32],
-    releases: &[u32],
-    trace: &[u8],
-    left: &mut [u32],
-) -> Walked
-    requires { ⌜ (length (now due) ≡ length (now left)) × (length (now tasks) ≡ length (now left)) × (length (now releases) ≡ length (now left)) × (length (now trace) ≤ 65536) ⌝ }
-    ensures { λ r. ⌜ ((ks : List Task) (js : List Job) → Deadlines ks js (now (due .entry)) → Tasks js (now (tasks .entry)) → Releases js (now (releases .entry)) → Works js (now (left .entry)) → (r ≡ walkedTo ks js (now (trace .entry)) (stop ks js (now (trace .entry)))) × (now (left .exit) ≡ leftAt ks js (now (trace .entry)) (stop ks js (now (trace .entry))))) ⌝ }
+fn walk_slots(due: &[u32], tasks: &[u32], ready: &[u32], trace: &[u8], left: &mut [u32]) -> Walked
+    requires { ⌜ (length (now due) ≡ length (now left)) × (length (now tasks) ≡ length (now left)) × (length (now ready) ≡ length (now left)) × (length (now trace) ≤ 65536) ⌝ }
+    ensures { λ r. ⌜ ((ks : List Task) (js : List Job) → Deadlines ks js (now (due .entry)) → Tasks js (now (tasks .entry)) → Readiness js (now (ready .entry)) → Works js (now (left .entry)) → (r ≡ walkedTo ks js (now (trace .entry)) (stop ks js (now (trace .entry)))) × (now (left .exit) ≡ leftAt ks js (now (trace .entry)) (stop ks js (now (trace .entry))))) ⌝ }
 {
     let mut t = 0;
     let mut served = 0;
@@ -66,7 +60,7 @@ fn walk_slots(
         if late_task(due, tasks, left, instant) < NO_TASK {
             break;
         }
-        let given = serve_slot(due, tasks, releases, trace[t], instant, left);
+        let given = serve_slot(due, tasks, ready, trace[t], instant, left);
         served += given.served;
         idle += given.idle;
         t += 1;
@@ -86,33 +80,35 @@ fn walk_slots(
 fn walk_jobs(
     table: Table,
     tasks: &[u32],
-    releases: &[u32],
+    releases: &[i32],
+    ready: &[u32],
     works: &[u32],
     trace: &[u8],
     due: &mut [u32],
     left: &mut [u32],
 ) -> Walked
-    requires { ⌜ (walkRefusal table (now tasks) (now releases) (now works) (now trace) (length (now left)) ≡ 0) × (length (now due) ≡ length (now tasks)) ⌝ }
-    ensures { λ r. ⌜ r ≡ walkAnswer table (now (tasks .entry)) (now (releases .entry)) (now (works .entry)) (now (trace .entry)) (length (now (left .entry))) ⌝ }
-    ensures leaves { λ r. ⌜ now (left .exit) ≡ leftAfter table (now (tasks .entry)) (now (releases .entry)) (now (works .entry)) (now (trace .entry)) (now (left .entry)) ⌝ }
+    requires { ⌜ (walkRefusal table (now tasks) (now releases) (now ready) (now works) (now trace) (length (now left)) ≡ 0) × (length (now due) ≡ length (now tasks)) ⌝ }
+    ensures { λ r. ⌜ r ≡ walkAnswer table (now (tasks .entry)) (now (releases .entry)) (now (ready .entry)) (now (works .entry)) (now (trace .entry)) (length (now (left .entry))) ⌝ }
+    ensures leaves { λ r. ⌜ now (left .exit) ≡ leftAfter table (now (tasks .entry)) (now (releases .entry)) (now (ready .entry)) (now (works .entry)) (now (trace .entry)) (now (left .entry)) ⌝ }
 {
     deadlines(table, tasks, releases, due);
     whole_work(works, left);
-    walk_slots(due, tasks, releases, trace, left)
+    walk_slots(due, tasks, ready, trace, left)
 }
 
 // The walk of what is accepted.
 fn walk_accepted(
     table: Table,
     tasks: &[u32],
-    releases: &[u32],
+    releases: &[i32],
+    ready: &[u32],
     works: &[u32],
     trace: &[u8],
     left: &mut [u32],
 ) -> Walked
-    requires { ⌜ walkRefusal table (now tasks) (now releases) (now works) (now trace) (length (now left)) ≡ 0 ⌝ }
-    ensures { λ r. ⌜ r ≡ walkAnswer table (now (tasks .entry)) (now (releases .entry)) (now (works .entry)) (now (trace .entry)) (length (now (left .entry))) ⌝ }
-    ensures leaves { λ r. ⌜ now (left .exit) ≡ leftAfter table (now (tasks .entry)) (now (releases .entry)) (now (works .entry)) (now (trace .entry)) (now (left .entry)) ⌝ }
+    requires { ⌜ walkRefusal table (now tasks) (now releases) (now ready) (now works) (now trace) (length (now left)) ≡ 0 ⌝ }
+    ensures { λ r. ⌜ r ≡ walkAnswer table (now (tasks .entry)) (now (releases .entry)) (now (ready .entry)) (now (works .entry)) (now (trace .entry)) (length (now (left .entry))) ⌝ }
+    ensures leaves { λ r. ⌜ now (left .exit) ≡ leftAfter table (now (tasks .entry)) (now (releases .entry)) (now (ready .entry)) (now (works .entry)) (now (trace .entry)) (now (left .entry)) ⌝ }
 {
     let mut due = [0u32; MOST];
     let count = tasks.len();
@@ -120,6 +116,7 @@ fn walk_accepted(
         table,
         tasks,
         releases,
+        ready,
         works,
         trace,
         &mut due[..count],
@@ -131,18 +128,19 @@ fn walk_accepted(
 fn check_walk(
     table: Table,
     tasks: &[u32],
-    releases: &[u32],
+    releases: &[i32],
+    ready: &[u32],
     works: &[u32],
     trace: &[u8],
     room: usize,
 ) -> u16
-    ensures { λ r. ⌜ r ≡ walkRefusal table (now (tasks .entry)) (now (releases .entry)) (now (works .entry)) (now (trace .entry)) room ⌝ }
+    ensures { λ r. ⌜ r ≡ walkRefusal table (now (tasks .entry)) (now (releases .entry)) (now (ready .entry)) (now (works .entry)) (now (trace .entry)) room ⌝ }
 {
     let refused = check_table(table);
     if refused != refusal::NONE {
         return refused;
     }
-    if !check_jobs(table, tasks, releases, works, trace.len()) {
+    if !check_jobs(table, tasks, releases, ready, works, trace.len()) {
         return refusal::JOBS;
     }
     if LONGEST < trace.len() {
@@ -161,15 +159,16 @@ fn check_walk(
 pub fn walk(
     table: Table,
     tasks: &[u32],
-    releases: &[u32],
+    releases: &[i32],
+    ready: &[u32],
     works: &[u32],
     trace: &[u8],
     left: &mut [u32],
 ) -> Walked
-    ensures { λ r. ⌜ r ≡ walkAnswer table (now (tasks .entry)) (now (releases .entry)) (now (works .entry)) (now (trace .entry)) (length (now (left .entry))) ⌝ }
-    ensures leaves { λ r. ⌜ now (left .exit) ≡ leftAfter table (now (tasks .entry)) (now (releases .entry)) (now (works .entry)) (now (trace .entry)) (now (left .entry)) ⌝ }
+    ensures { λ r. ⌜ r ≡ walkAnswer table (now (tasks .entry)) (now (releases .entry)) (now (ready .entry)) (now (works .entry)) (now (trace .entry)) (length (now (left .entry))) ⌝ }
+    ensures leaves { λ r. ⌜ now (left .exit) ≡ leftAfter table (now (tasks .entry)) (now (releases .entry)) (now (ready .entry)) (now (works .entry)) (now (trace .entry)) (now (left .entry)) ⌝ }
 {
-    let refused = check_walk(table, tasks, releases, works, trace, left.len());
+    let refused = check_walk(table, tasks, releases, ready, works, trace, left.len());
     if refused != refusal::NONE {
         return Walked {
             refusal: refused,
@@ -178,5 +177,5 @@ pub fn walk(
             idle: Units(0),
         };
     }
-    walk_accepted(table, tasks, releases, works, trace, left)
+    walk_accepted(table, tasks, releases, ready, works, trace, left)
 }

@@ -88,7 +88,7 @@ Numbered st = 1 ≤ st .count → 1 ≤ st .lowest
 numbered-after : (st : State) (r : Record) → Numbered st → Numbered (after st r)
 unfolding after ended refuse afterHead afterTask
 numbered-after st (ComponentRecord h) n = λ l. omega arith
-numbered-after st (TaskRecord k) n = n
+numbered-after st (TaskRecord stated k) n = n
 numbered-after st (PairRecord p) n = n
 numbered-after st (EndRecord count) n = n
 numbered-after st (NoRecord m) n = n

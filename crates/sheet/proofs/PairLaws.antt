@@ -68,7 +68,7 @@ end-taken es count left =
 -- where no record begins, there is a refusal
 abbrev Told : Record → Type 0
 Told (ComponentRecord h) = Unit {0}
-Told (TaskRecord k) = Unit {0}
+Told (TaskRecord stated k) = Unit {0}
 Told (PairRecord p) = Unit {0}
 Told (EndRecord count) = Unit {0}
 Told (NoRecord n) = n ≡ 0 → ⊥
@@ -85,7 +85,7 @@ told s =
     (λ r e. omega (arith, e))))
   where
     values : (vs : List ℕ) (kind : ℕ) → Told (recordWith kind vs)
-    values vs = by-kind (λ (k : ℕ). Told (recordWith k vs)) tt tt tt tt tt (λ k u. rw (u .reads vs) (λ e. omega (arith, e)))
+    values vs = by-kind (λ (k : ℕ). Told (recordWith k vs)) tt tt tt tt tt tt (λ k u. rw (u .reads vs) (λ e. omega (arith, e)))
 
 -- ---- the walk
 
@@ -101,7 +101,7 @@ module _ (es : List Entry) (s : List ℕ) where
       → P (pairJudged es st r left)
   unfolding pairJudged sizeOf
   judged-cases P st (ComponentRecord h) left t stop on = stop 16 (λ e. absurd (omega (arith, e)))
-  judged-cases P st (TaskRecord k) left t stop on = stop 16 (λ e. absurd (omega (arith, e)))
+  judged-cases P st (TaskRecord stated k) left t stop on = stop 16 (λ e. absurd (omega (arith, e)))
   judged-cases P st (PairRecord p) left t stop on =
       let n : ℕ = pairRefusal es (st .pairs) p in
       cases P (eqb n 0) (λ q. on p refl (eqb-true n 0 q)) (λ q. stop n (λ e. absurd (false≢true (sym q ∙ eq-eqb n 0 e))))

@@ -1,14 +1,14 @@
 -- How the records of components and tasks are judged, each against what was read before it: what may stand where in a sheet (docs/RULES.md, 10)
 -- and which refusal comes first (13). The first record of another kind ends them; Pairs.antt judges it and what follows.
 use Prim.Native.Nat.{ℕ, _+_}
-use mathlib.Core.Bool.{true, false, cond}
+use mathlib.Core.Bool.{Bool, true, false, cond, _&&_}
 use lib.Dec.{leb, ltb, eqb}
 use Rattle.budget.specs.declared.task.Task.{Task}
 use Rattle.budget.specs.Component.{unitsOf}
 use Rattle.budget.specs.Interface.{interface, interfaceRefusal}
 use Rattle.budget.specs.Limits.{most-tasks}
 use Rattle.budget.specs.Refusal as refusal
-use Rattle.budget.specs.Task.{taskRefusal}
+use Rattle.budget.specs.Task.{J, taskRefusal}
 use Rattle.record.specs.declared.layout.Head.{Head}
 use Rattle.record.specs.declared.layout.Record.{Record}
 use Rattle.record.specs.declared.layout.Record.the-variants.{ComponentRecord, TaskRecord, PairRecord, EndRecord, NoRecord}
@@ -45,17 +45,21 @@ headRefusal st h =
     (cond (ltb (h .number) (st .lowest)) refusal.number
     (interfaceRefusal (interface (h .period .0) (unitsOf (h .capacity)) (h .deadline .0))))
 
+-- the ranges of a task record: those of its task, and a J that is stated is at least 1, so that each task has one form
+unfoldable pub formRefusal : Task → Bool → ℕ
+formRefusal k stated = cond (stated && eqb (J k) 0) refusal.range (taskRefusal k)
+
 -- a task record (RULES 13): no component before it, then too many tasks, then its ranges
-unfoldable pub standingRefusal : State → Task → ℕ
-standingRefusal st k =
+unfoldable pub standingRefusal : State → Task → Bool → ℕ
+standingRefusal st k stated =
     cond (eqb (st .count) 0) refusal.no-component
     (cond (leb most-tasks (st .tasks)) refusal.tasks
-    (taskRefusal k))
+    (formRefusal k stated))
 
 -- of one record; where none was read, the refusal is the one of its layout
 unfoldable pub recordRefusal : State → Record → ℕ
 recordRefusal st (ComponentRecord h) = headRefusal st h
-recordRefusal st (TaskRecord k) = standingRefusal st k
+recordRefusal st (TaskRecord stated k) = standingRefusal st k stated
 recordRefusal st (PairRecord p) = refusal.none
 recordRefusal st (EndRecord count) = refusal.none
 recordRefusal st (NoRecord n) = n
@@ -73,12 +77,12 @@ afterHead st h =
     }
 
 -- behind a task record: the last component has one task more
-unfoldable pub afterTask : State → Task → State
-afterTask st k =
+unfoldable pub afterTask : State → Task → Bool → State
+afterTask st k stated =
     record {
       going = true;
       refusal = refusal.none;
-      place = st .place + sizeOf (TaskRecord k);
+      place = st .place + sizeOf (TaskRecord stated k);
       count = st .count;
       lowest = st .lowest;
       tasks = st .tasks + 1;
@@ -87,7 +91,7 @@ afterTask st k =
 -- behind a record that is taken; one that is neither a component's nor a task's ends the walk where it begins
 unfoldable pub after : State → Record → State
 after st (ComponentRecord h) = afterHead st h
-after st (TaskRecord k) = afterTask st k
+after st (TaskRecord stated k) = afterTask st k stated
 after st (PairRecord p) = ended st
 after st (EndRecord count) = ended st
 after st (NoRecord n) = ended st

@@ -75,7 +75,7 @@ afterPair st p = record { going = true; refusal = refusal.none; place = st .plac
 -- one record, with so many bytes left from its first on; a component's or a task's record may not stand behind a pair
 unfoldable pub pairJudged : List Entry → Pairing → Record → ℕ → Pairing
 pairJudged es st (ComponentRecord h) left = stopped refusal.pair st
-pairJudged es st (TaskRecord k) left = stopped refusal.pair st
+pairJudged es st (TaskRecord stated k) left = stopped refusal.pair st
 pairJudged es st (PairRecord p) left =
     cond (eqb (pairRefusal es (st .pairs) p) refusal.none) (afterPair st p) (stopped (pairRefusal es (st .pairs) p) st)
 pairJudged es st (EndRecord count) left = stopped (endingRefusal es count left) st

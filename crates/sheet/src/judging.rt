@@ -14,7 +14,7 @@ ghost use mathlib.Core.Path.{_≡_};
 ghost use Prim.Native.Nat.{_+_, _≤_, _<_};
 ghost use Rattle.budget.specs.Component.{unitsOf};
 ghost use Rattle.record.specs.Layout.{sizeOf};
-ghost use Rattle.sheet.specs.Judging.{refuse, opened, headRefusal, standingRefusal, recordRefusal, afterHead, afterTask, judged};
+ghost use Rattle.sheet.specs.Judging.{refuse, opened, headRefusal, formRefusal, standingRefusal, recordRefusal, afterHead, afterTask, judged};
 
 // Most bytes of a sheet, and most components.
 pub const MOST_BYTES: usize = 65_536;
@@ -96,9 +96,20 @@ fn check_head(state: State, head: Head) -> u16
     })
 }
 
+// The ranges of a task record. A J of 0 belongs into the kind that does not state it, so that each task has one form.
+fn check_form(task: Task, stated: bool) -> u16
+    ensures { λ r. ⌜ r ≡ formRefusal task stated ⌝ }
+{
+    let lateness = task.lateness.0;
+    if stated && lateness == 0 {
+        return refusal::RANGE;
+    }
+    check_task(task)
+}
+
 // The refusals of a task record.
-fn check_standing(state: State, task: Task) -> u16
-    ensures { λ r. ⌜ r ≡ standingRefusal state task ⌝ }
+fn check_standing(state: State, task: Task, stated: bool) -> u16
+    ensures { λ r. ⌜ r ≡ standingRefusal state task stated ⌝ }
 {
     let count = state.count;
     if count == 0 {
@@ -108,7 +119,7 @@ fn check_standing(state: State, task: Task) -> u16
     if Table::MOST <= tasks {
         return refusal::TASKS;
     }
-    check_task(task)
+    check_form(task, stated)
 }
 
 // The refusal of one record; where none was read, it is the one of its layout. A pair or the end record ends the components.
@@ -117,7 +128,7 @@ fn check_record(state: State, record: Record) -> u16
 {
     match record {
         Record::ComponentRecord(head) => check_head(state, head),
-        Record::TaskRecord(task) => check_standing(state, task),
+        Record::TaskRecord(stated, task) => check_standing(state, task, stated),
         Record::PairRecord(_) => refusal::NONE,
         Record::EndRecord(_) => refusal::NONE,
         Record::NoRecord(number) => number,
@@ -140,11 +151,11 @@ fn after_head(state: State, head: Head) -> State
     }
 }
 
-fn after_task(state: State, task: Task) -> State
-    requires { ⌜ (state .place + sizeOf (Record.TaskRecord task) ≤ 65_536) × (state .tasks < 64) ⌝ }
-    ensures { λ r. ⌜ r ≡ afterTask state task ⌝ }
+fn after_task(state: State, task: Task, stated: bool) -> State
+    requires { ⌜ (state .place + sizeOf (Record.TaskRecord stated task) ≤ 65_536) × (state .tasks < 64) ⌝ }
+    ensures { λ r. ⌜ r ≡ afterTask state task stated ⌝ }
 {
-    let size = size_of(Record::TaskRecord(task));
+    let size = size_of(Record::TaskRecord(stated, task));
     State {
         going: true,
         refusal: refusal::NONE,
@@ -166,7 +177,7 @@ pub(crate) fn judge(state: State, record: Record) -> State
     }
     match record {
         Record::ComponentRecord(head) => after_head(state, head),
-        Record::TaskRecord(task) => after_task(state, task),
+        Record::TaskRecord(stated, task) => after_task(state, task, stated),
         Record::PairRecord(_) => refuse(refusal::NONE, state),
         Record::EndRecord(_) => refuse(refusal::NONE, state),
         Record::NoRecord(_) => refuse(refusal::NONE, state),

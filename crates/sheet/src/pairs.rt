@@ -131,7 +131,7 @@ fn take_pair(
     after_pair(course, pair)
 }
 
-// One record against the course so far; a component or a task may not stand behind the components.
+// One record against the course so far; a component or a task may not stand behind a pair.
 fn judge_behind(
     lowest: &[u32; 257],
     loads: &mut [usize; 257],
@@ -145,7 +145,7 @@ fn judge_behind(
 {
     match record {
         Record::ComponentRecord(_) => halt(refusal::PAIR, course),
-        Record::TaskRecord(_) => halt(refusal::PAIR, course),
+        Record::TaskRecord(_, _) => halt(refusal::PAIR, course),
         Record::PairRecord(pair) => take_pair(lowest, loads, count, course, pair),
         Record::EndRecord(said) => halt(check_ending(count, said, left), course),
         Record::NoRecord(number) => halt(number, course),

@@ -1,28 +1,29 @@
 -- Valid components in rising number are walked to the record that ends them, and with each count of components the walk is held behind their bytes: record by record, along the walk.
 use Prim.Native.Nat.{ℕ, zero, suc, _+_, _-_, _^_, _≤_, _<_}
 use mathlib.Core.Path.{_≡_, refl, sym, ap, _∙_}
-use mathlib.Core.Bool.{true}
+use mathlib.Core.Bool.{true, false, _&&_}
 use mathlib.Core.List.{List, [], _∷_, _++_, append-assoc}
 use native.Mathlib.Omega.{arith}
 use lib.ListN.{length, getD, drop, length-append}
 use lib.Seq.{drop-at, drop-drop}
-use borrow.Author.Tests.{lt-leb, le-ltb, ne-eqb}
+use lib.Dec.{ltb, eqb}
+use borrow.Author.Tests.{lt-leb, lt-ltb, le-ltb, ne-eqb}
 use Rattle.budget.specs.declared.component.Capacity.{Capacity}
 use Rattle.budget.specs.declared.component.Component.{Component}
 use Rattle.budget.specs.declared.task.Task.{Task}
 use Rattle.budget.specs.Component.{unitsOf, interfaceOf, refused}
 use Rattle.budget.specs.Interface.{interface, interfaceRefusal, validInterface}
-use Rattle.budget.specs.Task.{T, C, D, taskRefusal, validTask, validTasks, tasksOf}
+use Rattle.budget.specs.Task.{T, C, D, J, taskRefusal, validTask, validTasks, tasksOf}
 use Rattle.budget.proofs.Places.{places}
 use Rattle.budget.proofs.Ranges.{in-range}
 use Rattle.budget.proofs.Valid.{valid-task, valid-interface, both}
 use Rattle.record.specs.declared.layout.Pair.{Pair}
 use Rattle.record.specs.declared.layout.Record.{Record}
-use Rattle.record.specs.declared.layout.Record.the-variants.{ComponentRecord, TaskRecord, PairRecord, EndRecord}
+use Rattle.record.specs.declared.layout.Record.the-variants.{ComponentRecord, PairRecord, EndRecord}
 use Rattle.record.specs.Layout.{headBytes, taskBytes, sizeOf, recordOf}
 use Rattle.record.proofs.RoundRecord.{head, head-back, task-back}
 use Rattle.sheet.specs.declared.judging.State.{State}
-use Rattle.sheet.specs.Judging.{refuse, ended, headRefusal, standingRefusal, recordRefusal, afterHead, afterTask, after, judged}
+use Rattle.sheet.specs.Judging.{refuse, ended, headRefusal, formRefusal, standingRefusal, recordRefusal, afterHead, afterTask, after, judged}
 use Rattle.sheet.specs.Walk.{step, walk, held}
 use Rattle.sheet.proofs.JudgingLaws.{orderly}
 use Rattle.sheet.proofs.WalkLaws.{walk-on, walk-stopped, held-on, held-here, held-cases, held-stopped, step-advances}
@@ -34,11 +35,7 @@ use Rattle.transfer.proofs.StoreLaws.{head-length, task-length}
 abbrev pub on : ℕ → ℕ → ℕ → ℕ → State
 on place count lowest tasks = record { going = true; refusal = 0; place = place; count = count; lowest = lowest; tasks = tasks }
 
--- a record is as long as its bytes
-pub task-size : (k : Task) → sizeOf (TaskRecord k) ≡ length (taskBytes k)
-unfolding sizeOf
-task-size k = sym (task-length k)
-
+-- a component record is as long as its bytes
 pub head-size : (number period : ℕ) (c : Capacity) (deadline : ℕ) → sizeOf (ComponentRecord (head number period c deadline)) ≡ length (headBytes number period c deadline)
 unfolding sizeOf
 head-size number period c deadline = sym (head-length number period c deadline)
@@ -57,20 +54,30 @@ pub end-stops : (n : ℕ) → Stops (EndRecord n)
 unfolding judged recordRefusal after
 end-stops n st = refl
 
+-- a J that is stated only where it is above 0 is not 0
+above : (n : ℕ) → (ltb 0 n && eqb n 0) ≡ false
+above zero = refl
+above (suc n) = rw (lt-ltb 0 (suc n) (omega arith), ne-eqb (suc n) 0 (λ z. omega (arith, z)))
+
+formed-taken : (k : Task) → validTask k ≡ true → formRefusal k (ltb 0 (J k)) ≡ 0
+unfolding formRefusal taskRefusal
+formed-taken k v = rw (above (J k), v)
+
 module _ (s : List ℕ) where
   -- what stands behind a row of bytes that begins at a place
   pub behind : (p : ℕ) (a tail : List ℕ) → drop p s ≡ a ++ tail → drop (p + length a) s ≡ tail
   behind p a tail e = sym (drop-drop (length a) p s) ∙ (ap (drop (length a)) e ∙ drop-at a tail (length a) refl)
 
   task-step : (p count lowest tasks : ℕ) (k : Task) (tail : List ℕ) → 1 ≤ count → tasks < 64 → validTask k ≡ true → drop p s ≡ taskBytes k ++ tail → step judged s (on p count lowest tasks) ≡ on (p + length (taskBytes k)) count lowest (tasks + 1)
-  unfolding step judged recordRefusal standingRefusal after afterTask taskRefusal
+  unfolding step judged recordRefusal standingRefusal after afterTask
   task-step p count lowest tasks k tail one few v e =
       let w = valid-task k v in
       let t : T k < 256 ^ 4 = omega arith in
       let c : C k < 256 ^ 4 = omega arith in
       let d : D k < 256 ^ 4 = omega arith in
-      rw (e, task-back tail k t c d, ne-eqb count 0 (omega arith), lt-leb 64 tasks few, v)
-      (ap (λ (n : ℕ). on (p + n) count lowest (tasks + 1)) (task-size k))
+      let j : J k < 256 ^ 4 = omega arith in
+      rw (e, task-back tail k t c d j, ne-eqb count 0 (omega arith), lt-leb 64 tasks few, formed-taken k v)
+      (ap (λ (n : ℕ). on (p + n) count lowest (tasks + 1)) (sym (task-length k)))
 
   head-step : (p count lowest tasks number period : ℕ) (c : Capacity) (deadline : ℕ) (tail : List ℕ) → count < 256 → lowest ≤ number → number < 65_536 → validInterface (interface period (unitsOf c) deadline) ≡ true
       → drop p s ≡ headBytes number period c deadline ++ tail → step judged s (on p count lowest tasks) ≡ on (p + length (headBytes number period c deadline)) (count + 1) (number + 1) 0

@@ -1,6 +1,7 @@
 -- Reading tasks one after the other: those read so far, and those still to be read from the place reached, are all the tasks. And what is read between two edges.
 use Prim.Native.Nat.{ℕ, zero, suc, _+_, _-_, _≤_, _<_}
 use mathlib.Core.Path.{_≡_, refl, sym, ap, ap₂, _∙_}
+use mathlib.Core.Bool.{Bool}
 use mathlib.Core.List.{List, [], _∷_, _++_, append-nil}
 use native.Mathlib.Omega.{arith}
 use lib.ListN.{length, getD, take, drop, length-append}
@@ -33,11 +34,11 @@ module _ (part : List ℕ) (start : ℕ) where
 
   module _ (table : Table) (place : ℕ) where
     -- a task record is read there, with this size
-    pub taking-more : (r : Record) (task : Task) (size : ℕ) → r ≡ recordOf (take (length part - place) (drop place part)) → r ≡ TaskRecord task → size ≡ sizeOf (TaskRecord task)
+    pub taking-more : (r : Record) (task : Task) (stated : Bool) (size : ℕ) → r ≡ recordOf (take (length part - place) (drop place part)) → r ≡ TaskRecord stated task → size ≡ sizeOf (TaskRecord stated task)
         → (left : ℕ) → Taking part start table place left → 0 < left → (longer : Table) → longer ≡ appended table task → Taking part start longer (place + size) (left - 1)
     unfolding tasksIn taskThen
-    taking-more r task size e f g zero w h longer a = absurd (omega arith)
-    taking-more r task size e f g (suc m) w h longer a =
+    taking-more r task stated size e f g zero w h longer a = absurd (omega arith)
+    taking-more r task stated size e f g (suc m) w h longer a =
         let n : suc m - 1 ≡ m = omega arith in
         record {
           ks = w .ks ++ (task ∷ []);
@@ -45,10 +46,10 @@ module _ (part : List ℕ) (start : ℕ) where
           todo =
               append-snoc (w .ks) task (tasksIn (suc m - 1) (drop (place + size) part))
               ∙ (ap (λ (l : List Task). w .ks ++ l)
-              (ap₂ (λ (i : ℕ) (l : List ℕ). task ∷ tasksIn i l) n (rest-here part place r e (TaskRecord task) size f g)
+              (ap₂ (λ (i : ℕ) (l : List ℕ). task ∷ tasksIn i l) n (rest-here part place r e (TaskRecord stated task) size f g)
               ∙ ap (λ (x : Record). taskThen x (tasksIn m (drop (sizeOf (recordOf (drop place part))) (drop place part)))) (sym (read-here part place r e ∙ f)))
               ∙ w .todo);
-          here = room-here part place r e (TaskRecord task) size f g (w .here);
+          here = room-here part place r e (TaskRecord stated task) size f g (w .here);
           few = let l = length-append (w .ks) (task ∷ []) in omega (arith, l, w .few);
         }
 

@@ -12,11 +12,10 @@ use Rattle.budget.specs.declared.component.Component.{Component}
 use Rattle.budget.specs.declared.task.Task.{Task}
 use Rattle.budget.specs.Component.{unitsOf, interfaceOf, refused, withTasks}
 use Rattle.budget.specs.Interface.{interface}
-use Rattle.budget.specs.Task.{T, C, D, validTask, validTasks, tasksOf}
+use Rattle.budget.specs.Task.{T, C, D, J, validTask, validTasks, tasksOf}
 use Rattle.budget.proofs.Ranges.{in-range}
 use Rattle.budget.proofs.Valid.{valid-task, valid-interface, both}
 use Rattle.record.specs.declared.layout.Pair.{Pair}
-use Rattle.record.specs.declared.layout.Record.the-variants.{TaskRecord}
 use Rattle.record.specs.Layout.{headBytes, taskBytes, endBytes, sizeOf, recordOf}
 use Rattle.record.proofs.RoundRecord.{head-back, task-back}
 use Rattle.sheet.specs.declared.check.Checked.{Checked}
@@ -30,8 +29,9 @@ use Rattle.transfer.specs.Pairing.{noPair, pairReading}
 use Rattle.transfer.specs.Reading.{taskThen, tasksIn, withHead, componentFrom, reading}
 use Rattle.transfer.specs.RoundTrip.{componentsBytes, pairsBytes, sheetBytes, returned, Sound, Rising, entriesOf}
 use Rattle.transfer.specs.Writing.{tasksBytes, componentBytes}
-use Rattle.transfer.proofs.Accepts.{Stops, pair-stops, end-stops, behind, task-size, head-size, before, few-tasks}
+use Rattle.transfer.proofs.Accepts.{Stops, pair-stops, end-stops, behind, head-size, before, few-tasks}
 use Rattle.transfer.proofs.PairBytes.{pairs-length, small-numbers, pairs-stand, end-closed}
+use Rattle.transfer.proofs.StoreLaws.{formed, task-length}
 use Rattle.transfer.proofs.Register.{Fronted, unrefused, count-is, edge-is, tail-is, register-is}
 
 -- ---- one component from its own bytes
@@ -52,9 +52,10 @@ tasks-back (suc n) (k ∷ ks) h v =
     let t : T k < 256 ^ 4 = omega arith in
     let c : C k < 256 ^ 4 = omega arith in
     let d : D k < 256 ^ 4 = omega arith in
-    rw (task-back (tasksBytes ks) k t c d)
+    let j : J k < 256 ^ 4 = omega arith in
+    rw (task-back (tasksBytes ks) k t c d j)
     (ap (λ (l : List Task). k ∷ l)
-    (ap (tasksIn n) (drop-at (taskBytes k) (tasksBytes ks) (sizeOf (TaskRecord k)) (sym (task-size k))) ∙ tasks-back n ks (omega arith) (valid .1)))
+    (ap (tasksIn n) (drop-at (taskBytes k) (tasksBytes ks) (sizeOf (formed k)) (task-length k)) ∙ tasks-back n ks (omega arith) (valid .1)))
 
 pub component-back : (c : Component) → Sound c → componentFrom (componentBytes c) (recordOf (componentBytes c)) ≡ returned c
 unfolding componentBytes componentFrom withHead withTasks interfaceOf

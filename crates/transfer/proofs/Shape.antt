@@ -1,18 +1,18 @@
 -- A sheet whose walk is not refused begins with valid components in rising number, up to a record that ends them: undone record by record, the walk's last steps first.
 use Prim.Native.Nat.{ℕ, zero, suc, _+_, _-_, _≤_, _<_}
 use mathlib.Core.Path.{_≡_, refl, sym, ap, ap₂, _∙_}
-use mathlib.Core.Bool.{true}
+use mathlib.Core.Bool.{Bool, true, false}
 use mathlib.Core.List.{List, [], _∷_, _++_, map, append-assoc}
 use native.Mathlib.Omega.{arith}
 use lib.ListN.{length, drop, replicate, length-append, length-replicate}
 use lib.Seq.{drop-drop, getD-drop}
 use lib.Dec.{eqb}
-use borrow.Author.Tests.{le-ltb, eqb-true, eqb-false}
+use borrow.Author.Tests.{lt-ltb, le-ltb, eqb-true, eqb-false}
 use Rattle.budget.specs.declared.component.Component.{Component}
 use Rattle.budget.specs.declared.task.Task.{Task}
 use Rattle.budget.specs.Component.{unitsOf, interfaceOf, withTasks}
 use Rattle.budget.specs.Interface.{interface, validInterface, interfaceRefusal}
-use Rattle.budget.specs.Task.{validTask, validTasks, taskRefusal, tasksOf, tableOf, noTask}
+use Rattle.budget.specs.Task.{J, validTask, validTasks, taskRefusal, tasksOf, tableOf, noTask}
 use Rattle.budget.proofs.Answers.{passed}
 use Rattle.budget.proofs.EditLaws.{tasks-of-table}
 use Rattle.budget.proofs.Ranges.{range-in}
@@ -22,11 +22,11 @@ use Rattle.record.specs.declared.layout.Head.{Head}
 use Rattle.record.specs.declared.layout.Record.{Record}
 use Rattle.record.specs.declared.layout.Record.the-variants.{ComponentRecord, TaskRecord, PairRecord, EndRecord, NoRecord}
 use Rattle.record.specs.Field.{Bytes}
-use Rattle.record.specs.Layout.{headBytes, headSize, taskBytes, recordBytes, sizeOf, recordOf}
+use Rattle.record.specs.Layout.{headBytes, headSize, taskBytesBy, taskBytes, taskSize, recordBytes, sizeOf, recordOf}
 use Rattle.sheet.specs.Judging.{most-bytes, start, refuse, opened, recordRefusal, afterHead, afterTask, after, judged}
 use Rattle.sheet.specs.Walk.{step, walk}
 use Rattle.sheet.specs.Register.{walked}
-use Rattle.sheet.proofs.JudgingLaws.{some-head, HeadTaken, head-taken, TaskTaken, task-taken}
+use Rattle.sheet.proofs.JudgingLaws.{some-head, some-task, HeadTaken, head-taken, TaskTaken, task-taken}
 use Rattle.transfer.specs.RoundTrip.{componentsBytes, returned, Sound, Rising}
 use Rattle.transfer.specs.Reading.{withHead}
 use Rattle.transfer.specs.Writing.{tasksBytes, componentBytes}
@@ -65,6 +65,13 @@ module _ (f : ℕ) (s : List ℕ) where
       let n : ℕ = recordRefusal st r in
       cases (λ (x : State). Accepts x → (n ≡ 0) × Accepts (after st r)) (eqb n 0) (λ p a. (eqb-true n 0 p, a)) (λ p a. absurd (refused-not n st (eqb-false n 0 p) a))
 
+-- ---- each task has one form: a J that is stated is not 0, and one that is not stated is 0
+
+one-form : (k : Task) (stated : Bool) → (stated ≡ false → J k ≡ 0) → (stated ≡ true → 0 < J k) → taskBytesBy stated k ≡ taskBytes k
+unfolding taskBytes
+one-form k true z l = rw (lt-ltb 0 (J k) (l refl))
+one-form k false z l = rw (le-ltb 0 (J k) (omega (arith, z refl)))
+
 -- ---- one record that is taken, by its kind; what stands behind it has a shape
 
 module _ (s : List ℕ) (st : State) where
@@ -88,16 +95,17 @@ module _ (s : List ℕ) (st : State) where
         stops = rw e o;
       }
 
-  task-shape : (k : Task) → TaskTaken st k → Faithful (drop (st .place) s) (TaskRecord k) → Shape s (st .place + sizeOf (TaskRecord k)) (st .count) (st .lowest) (st .tasks + 1) → Here
+  task-shape : (k : Task) (stated : Bool) → TaskTaken st k stated → Faithful (drop (st .place) s) (TaskRecord stated k)
+      → Shape s (st .place + sizeOf (TaskRecord stated k)) (st .count) (st .lowest) (st .tasks + 1) → Here
   unfolding Here tasksBytes validTasks taskRefusal sizeOf
-  task-shape k t w n =
+  task-shape k stated t w n =
       record {
         ks = k ∷ n .ks;
         cs = n .cs;
         tail = n .tail;
         bytes =
-            w
-            ∙ (ap (λ (x : List ℕ). taskBytes k ++ x) (drop-drop 16 (st .place) s ∙ n .bytes)
+            w .1
+            ∙ (ap₂ _++_ (one-form k stated (w .0) (t .late)) (drop-drop (taskSize stated) (st .place) s ∙ n .bytes)
             ∙ sym (append-assoc (taskBytes k) (tasksBytes (n .ks)) (componentsBytes (n .cs) ++ n .tail)));
         valid = and-true (passed (validTask k) (t .ranges)) (n .valid);
         few = omega (arith, n .few);
@@ -173,9 +181,10 @@ module _ (s : List ℕ) (b : Bytes s) where
       let some = some-head (h .capacity) in
       let t = head-taken st h e in
       head-shape s st h t w few (next (afterHead st h) refl room (omega arith) (omega arith) (omega (arith, t .few)) a)
-  record-shape f st (TaskRecord k) i w room few most e a next =
-      let t = task-taken st k e in
-      task-shape s st k t w (next (afterTask st k) refl room (omega arith) (omega (arith, t .few)) most a)
+  record-shape f st (TaskRecord stated k) i w room few most e a next =
+      let some = some-task stated in
+      let t = task-taken st k stated e in
+      task-shape s st k stated t w (next (afterTask st k stated) refl room (omega arith) (omega (arith, t .few)) most a)
   record-shape f st (PairRecord p) i w room few most e a next = end-shape s st (PairRecord p) i (pair-stops p) most few
   record-shape f st (EndRecord n) i w room few most e a next = end-shape s st (EndRecord n) i (end-stops n) most few
   record-shape f st (NoRecord n) i w room few most e a next = absurd (w e)

@@ -1,23 +1,26 @@
 -- Laws of the bytes of tasks and components, and of storing them. Records are written one after the other: what is left to store, put onto the buffer as it stands, always gives the same last buffer.
-use Prim.Native.Nat.{ℕ, _+_, _*_, _≤_, _<_, zero-le}
+use Prim.Native.Nat.{ℕ, _+_, _*_, _≤_, _<_}
 use mathlib.Core.Path.{_≡_, refl, sym, ap, ap₂, _∙_}
+use mathlib.Core.Bool.{Bool, true, false}
 use mathlib.Core.List.{List, [], _∷_, _++_}
 use native.Mathlib.Omega.{arith}
-use lib.ListN.{length, take, drop, getD, length-append}
+use lib.ListN.{length, take, drop, getD, length-append, length-take}
 use lib.Seq.{sets, sets-eq, length-sets}
-use lib.Dec.{eqb}
+use lib.Dec.{ltb, eqb}
 use borrow.Author.Tests.{eqb-true, eqb-false}
 use Rattle.budget.specs.declared.component.Capacity.{Capacity}
 use Rattle.budget.specs.declared.component.Capacity.the-variants.{Stated, Asked}
 use Rattle.budget.specs.declared.component.Component.{Component}
+use Rattle.budget.specs.declared.task.Table.{Table}
 use Rattle.budget.specs.declared.task.Task.{Task}
 use Rattle.budget.specs.Component.{rangeRefusal}
-use Rattle.budget.specs.Task.{noTask, tasksOf}
-use Rattle.budget.proofs.Places.{places, from-place, from-end}
+use Rattle.budget.specs.Task.{J, noTask, tasksOf}
+use Rattle.budget.proofs.Places.{from-place, from-end}
 use Rattle.record.specs.declared.layout.Pair.{Pair}
+use Rattle.record.specs.declared.layout.Record.{Record}
 use Rattle.record.specs.declared.layout.Record.the-variants.{ComponentRecord, TaskRecord, PairRecord, EndRecord}
 use Rattle.record.specs.declared.write.Written.{Written}
-use Rattle.record.specs.Layout.{headBytes, headSize, taskBytes, pairBytes, endBytes, recordBytes, sizeOf}
+use Rattle.record.specs.Layout.{headBytes, headSize, taskBytes, taskSize, pairBytes, endBytes, recordBytes, sizeOf}
 use Rattle.record.specs.Writing.{stored, roomRefusal, written, buffered}
 use Rattle.transfer.specs.Writing.{tasksBytes, componentBytes, writingRefusal}
 use Rattle.record.proofs.Cases.{cases}
@@ -25,54 +28,83 @@ use Rattle.record.proofs.RecordLaws.{record-length}
 use Rattle.record.proofs.StoreLaws.{room-given, written-place, written-bytes}
 pub use Rattle.record.proofs.StoreLaws.{sets-append}
 
-pub task-length : (k : Task) → length (taskBytes k) ≡ 16
-unfolding recordBytes sizeOf
-task-length k = record-length (TaskRecord k)
+-- a task's record in the form that is written
+abbrev pub formed : Task → Record
+formed k = TaskRecord (ltb 0 (J k)) k
 
-pub tasks-length : (ks : List Task) → length (tasksBytes ks) ≡ 16 * length ks
-unfolding tasksBytes
-tasks-length [] = refl
-tasks-length (k ∷ ks) =
-    length-append (taskBytes k) (tasksBytes ks) ∙ rw (task-length, tasks-length ks) (omega arith)
+formed-bytes : (k : Task) → recordBytes (formed k) ≡ taskBytes k
+unfolding recordBytes taskBytes
+formed-bytes k = refl
+
+pub task-length : (k : Task) → length (taskBytes k) ≡ sizeOf (formed k)
+task-length k = ap length (sym (formed-bytes k)) ∙ record-length (formed k)
+
+most-task : (stated : Bool) → taskSize stated ≤ 20
+unfolding taskSize
+most-task true = omega arith
+most-task false = omega arith
+
+tasks-short : (ks : List Task) → length (tasksBytes ks) ≤ 20 * length ks
+unfolding tasksBytes sizeOf
+tasks-short [] = omega arith
+tasks-short (k ∷ ks) = rw (length-append, task-length) (omega (arith, most-task (ltb 0 (J k)), tasks-short ks))
+
+-- the tasks of a component have few bytes
+pub table-short : (table : Table) → table .count ≤ 64 → length (tasksBytes (tasksOf table)) ≤ 1_280
+unfolding tasksOf
+table-short table h = let n = length-take (table .count) (table .tasks) in omega (arith, tasks-short (take (table .count) (table .tasks)))
+
+-- ---- the tasks of a table one after the other
+
+module _ (count : ℕ) (tasks : List Task) (fits : count ≤ length tasks) where
+  next-bytes : (i : ℕ) → i < count → tasksBytes (drop i (take count tasks)) ≡ taskBytes (getD tasks i noTask) ++ tasksBytes (drop (i + 1) (take count tasks))
+  unfolding tasksBytes
+  next-bytes i h = ap tasksBytes (from-place count tasks fits i h)
+
+  pub no-bytes : (i : ℕ) → count ≤ i → tasksBytes (drop i (take count tasks)) ≡ []
+  unfolding tasksBytes
+  no-bytes i h = ap tasksBytes (from-end count tasks fits i h)
+
+  pub next-length : (i : ℕ) → i < count → length (tasksBytes (drop i (take count tasks))) ≡ sizeOf (formed (getD tasks i noTask)) + length (tasksBytes (drop (i + 1) (take count tasks)))
+  next-length i h = rw (next-bytes i h, length-append, task-length)
 
 -- the tasks from place i on are still to be stored
 pub record Storing (start : List ℕ) (at count : ℕ) (tasks : List Task) (buffer : List ℕ) (place i : ℕ) : Type 0 where
   pub todo : sets buffer place (tasksBytes (drop i (take count tasks))) ≡ sets start at (tasksBytes (take count tasks))
   pub long : length buffer ≡ length start
-  pub here : place ≡ at + 16 * i
-  pub few : i ≤ count
+  pub here : place + length (tasksBytes (drop i (take count tasks))) ≡ at + length (tasksBytes (take count tasks))
 
 module _ (start : List ℕ) (at count : ℕ) (tasks : List Task) (fits : count ≤ length tasks) where
   pub storing-none : Storing start at count tasks start at 0
-  storing-none = record { todo = refl; long = refl; here = omega arith; few = zero-le }
+  storing-none = record { todo = refl; long = refl; here = refl }
 
   module _ (buffer : List ℕ) (place i : ℕ) (w : Storing start at count tasks buffer place i) where
-    pub storing-more : (new : List ℕ) (a : Written) → i < count → place + 16 ≤ length buffer
-        → a ≡ written (roomRefusal (length buffer) place (length (recordBytes (TaskRecord (getD tasks i noTask))))) place (recordBytes (TaskRecord (getD tasks i noTask)))
-        → new ≡ buffered (roomRefusal (length buffer) place (length (recordBytes (TaskRecord (getD tasks i noTask))))) buffer place (recordBytes (TaskRecord (getD tasks i noTask)))
+    pub storing-more : (new : List ℕ) (a : Written) (r : Record) → i < count → at + length (tasksBytes (take count tasks)) ≤ length start → r ≡ formed (getD tasks i noTask)
+        → a ≡ written (roomRefusal (length buffer) place (length (recordBytes r))) place (recordBytes r)
+        → new ≡ buffered (roomRefusal (length buffer) place (length (recordBytes r))) buffer place (recordBytes r)
         → Storing start at count tasks new (a .place) (i + 1)
-    unfolding tasksBytes recordBytes
-    storing-more new a h r e f =
-        let k : Task = getD tasks i noTask in
+    storing-more new a r h room k e f =
+        let bytes = recordBytes r in
         let rest = tasksBytes (drop (i + 1) (take count tasks)) in
-        let n : length (taskBytes k) ≡ 16 = task-length k in
-        let g : place + length (taskBytes k) ≤ length buffer = rw n r in
-        let s : new ≡ sets buffer place (taskBytes k) = written-bytes buffer place (taskBytes k) g new f in
-        let p : a .place ≡ place + length (taskBytes k) = written-place buffer place (taskBytes k) g a e in
-        let d : drop i (take count tasks) ≡ k ∷ drop (i + 1) (take count tasks) = from-place count tasks fits i h in
+        let d : tasksBytes (drop i (take count tasks)) ≡ bytes ++ rest = rw (k, formed-bytes) (next-bytes count tasks fits i h) in
+        let n = ap length d ∙ length-append bytes rest in
+        let g : place + length bytes ≤ length buffer = omega (arith, w .here, w .long) in
+        let s : new ≡ sets buffer place bytes = written-bytes buffer place bytes g new f in
+        let p : a .place ≡ place + length bytes = written-place buffer place bytes g a e in
         record {
           todo =
               ap₂ (λ (l : List ℕ) (q : ℕ). sets l q rest) s p
-              ∙ (sym (sets-append buffer place (taskBytes k) rest)
-              ∙ (ap (λ (ks : List Task). sets buffer place (tasksBytes ks)) (sym d) ∙ w .todo));
-          long = ap length s ∙ (length-sets buffer place (taskBytes k) ∙ w .long);
+              ∙ (sym (sets-append buffer place bytes rest)
+              ∙ (ap (sets buffer place) (sym d) ∙ w .todo));
+          long = ap length s ∙ (length-sets buffer place bytes ∙ w .long);
           here = omega (arith, w .here);
-          few = omega arith;
         }
 
-    pub storing-all : count ≤ i → buffer ≡ sets start at (tasksBytes (take count tasks))
-    unfolding tasksBytes
-    storing-all h = ap (λ (ks : List Task). sets buffer place (tasksBytes ks)) (sym (from-end count tasks fits i h)) ∙ w .todo
+    pub storing-all : count ≤ i → (place ≡ at + length (tasksBytes (take count tasks))) × (buffer ≡ sets start at (tasksBytes (take count tasks)))
+    storing-all h =
+        let e = no-bytes count tasks fits i h in
+        let n = ap length e in
+        (omega (arith, w .here), ap (sets buffer place) (sym e) ∙ w .todo)
 
 -- ---- whole components, pairs and the end record
 
@@ -93,11 +125,9 @@ unfolding headSize
 most-head (Stated u) = omega arith
 most-head Asked = omega arith
 
-pub component-length : (c : Component) → c .table .count ≤ length (c .table .tasks) → length (componentBytes c) ≡ headSize (c .capacity) + 16 * c .table .count
-unfolding componentBytes tasksOf
-component-length c h =
-    length-append (headBytes (c .number) (c .period .0) (c .capacity) (c .deadline .0)) (tasksBytes (take (c .table .count) (c .table .tasks)))
-    ∙ rw (head-length, tasks-length, places (c .table .count) (c .table .tasks) h)
+pub component-length : (c : Component) → length (componentBytes c) ≡ headSize (c .capacity) + length (tasksBytes (tasksOf (c .table)))
+unfolding componentBytes
+component-length c = rw (length-append, head-length)
 
 pub record Writable (room at : ℕ) (c : Component) : Type 0 where
   pub ranges : rangeRefusal c ≡ 0

@@ -24,7 +24,7 @@ noPair = record { child = 0; parent = 0 }
 unfoldable pub pairThen : Record → List Pair → List Pair
 pairThen (PairRecord p) ps = p ∷ ps
 pairThen (ComponentRecord h) ps = []
-pairThen (TaskRecord k) ps = []
+pairThen (TaskRecord stated k) ps = []
 pairThen (EndRecord count) ps = []
 pairThen (NoRecord n) ps = []
 

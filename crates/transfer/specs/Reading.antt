@@ -19,7 +19,7 @@ use Rattle.transfer.specs.declared.read.Reading.{Reading}
 
 -- a task record's task and those behind it; any other record ends them
 unfoldable pub taskThen : Record → List Task → List Task
-taskThen (TaskRecord k) ks = k ∷ ks
+taskThen (TaskRecord stated k) ks = k ∷ ks
 taskThen (ComponentRecord h) ks = []
 taskThen (PairRecord p) ks = []
 taskThen (EndRecord count) ks = []
@@ -37,7 +37,7 @@ withHead h ks = record { number = h .number; period = h .period; capacity = h .c
 -- the component of a part that begins with this record; a table has places for the most tasks of a component
 unfoldable pub componentFrom : List ℕ → Record → Component
 componentFrom s (ComponentRecord h) = withHead h (tasksIn most-tasks (drop (sizeOf (ComponentRecord h)) s))
-componentFrom s (TaskRecord k) = refused
+componentFrom s (TaskRecord stated k) = refused
 componentFrom s (PairRecord p) = refused
 componentFrom s (EndRecord count) = refused
 componentFrom s (NoRecord n) = refused

@@ -41,7 +41,7 @@ pub fn read_pairs(rest: &[u8]) -> Pairs
         let pair = match record {
             Record::PairRecord(pair) => pair,
             Record::ComponentRecord(_) => break,
-            Record::TaskRecord(_) => break,
+            Record::TaskRecord(_, _) => break,
             Record::EndRecord(_) => break,
             Record::NoRecord(_) => break,
         };

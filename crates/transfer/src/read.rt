@@ -36,7 +36,7 @@ fn read_tasks(part: &[u8], start: usize) -> Table
     while 0 < left {
         let record = record_of(&part[place..]);
         let task = match record {
-            Record::TaskRecord(task) => task,
+            Record::TaskRecord(_, task) => task,
             Record::ComponentRecord(_) => return table,
             Record::PairRecord(_) => return table,
             Record::EndRecord(_) => return table,
@@ -80,7 +80,7 @@ fn component_from(part: &[u8], record: Record) -> Component
 {
     match record {
         Record::ComponentRecord(head) => component_with(part, head),
-        Record::TaskRecord(_) => refused(),
+        Record::TaskRecord(_, _) => refused(),
         Record::PairRecord(_) => refused(),
         Record::EndRecord(_) => refused(),
         Record::NoRecord(_) => refused(),

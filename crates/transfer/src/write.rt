@@ -3,6 +3,7 @@ use budget::component::Component;
 use budget::component::check_ranges;
 use budget::refusal;
 use budget::task::Table;
+use budget::task::Task;
 use record::layout::Head;
 use record::layout::Record;
 pub use record::write::Written;
@@ -11,11 +12,12 @@ use record::write::size_of;
 use record::write::write_record;
 use sheet::check::MOST_COMPONENTS;
 ghost use mathlib.Core.Path.{_≡_};
-ghost use Prim.Native.Nat.{_+_, _*_, _≤_};
+ghost use Prim.Native.Nat.{_+_, _≤_};
 ghost use lib.ListN.{length};
+ghost use lib.Dec.{ltb};
 ghost use lib.Seq.{sets};
-ghost use Rattle.budget.specs.Task.{tasksOf};
-ghost use Rattle.record.specs.Layout.{headSize, endBytes};
+ghost use Rattle.budget.specs.Task.{J, tasksOf};
+ghost use Rattle.record.specs.Layout.{endBytes};
 ghost use Rattle.record.specs.Writing.{stored, written, buffered};
 ghost use Rattle.transfer.specs.Writing.{tasksBytes, componentBytes, writingRefusal, endRefusal};
 
@@ -34,9 +36,33 @@ fn head_of(component: Component) -> Head
     }
 }
 
+// A task's record states its J exactly where that is not 0: the form that a sheet takes.
+fn task_record(task: Task) -> Record
+    ensures { λ r. ⌜ r ≡ Record.TaskRecord (ltb 0 (J task)) task ⌝ }
+{
+    let lateness = task.lateness.0;
+    Record::TaskRecord(0 < lateness, task)
+}
+
+// The bytes of a table's task records.
+fn tasks_size(table: Table) -> usize
+    requires { ⌜ table .count ≤ 64 ⌝ }
+    ensures { λ r. ⌜ r ≡ length (tasksBytes (tasksOf table)) ⌝ }
+{
+    let count = table.count;
+    let tasks = table.tasks;
+    let mut size = 0;
+    let mut i = 0;
+    while i < count {
+        size += size_of(task_record(tasks[i]));
+        i += 1;
+    }
+    size
+}
+
 fn write_tasks(buffer: &mut [u8], at: usize, table: Table) -> usize
-    requires { ⌜ (table .count ≤ 64) × (at + 16 * table .count ≤ length (now buffer)) ⌝ }
-    ensures place { λ r. ⌜ r ≡ at + 16 * table .count ⌝ }
+    requires { ⌜ (table .count ≤ 64) × (at + length (tasksBytes (tasksOf table)) ≤ length (now buffer)) ⌝ }
+    ensures place { λ r. ⌜ r ≡ at + length (tasksBytes (tasksOf table)) ⌝ }
     ensures bytes { λ _. ⌜ now (buffer .exit) ≡ sets (now (buffer .entry)) at (tasksBytes (tasksOf table)) ⌝ }
 {
     let count = table.count;
@@ -44,7 +70,8 @@ fn write_tasks(buffer: &mut [u8], at: usize, table: Table) -> usize
     let mut place = at;
     let mut i = 0;
     while i < count {
-        let written = write_record(buffer, place, Record::TaskRecord(tasks[i]));
+        let record = task_record(tasks[i]);
+        let written = write_record(buffer, place, record);
         place = written.place;
         i += 1;
     }
@@ -53,12 +80,11 @@ fn write_tasks(buffer: &mut [u8], at: usize, table: Table) -> usize
 
 fn component_size(component: Component) -> usize
     requires { ⌜ component .table .count ≤ 64 ⌝ }
-    ensures { λ r. ⌜ r ≡ headSize (component .capacity) + 16 * component .table .count ⌝ }
+    ensures { λ r. ⌜ r ≡ length (componentBytes component) ⌝ }
 {
     let table = component.table;
-    let count = table.count;
     let head = head_of(component);
-    size_of(Record::ComponentRecord(head)) + 16 * count
+    size_of(Record::ComponentRecord(head)) + tasks_size(table)
 }
 
 fn check_writing(room: usize, at: usize, component: Component) -> u16

@@ -1,6 +1,6 @@
 -- A component of a sheet that is judged in its tree is refused for its common period only: what its children add are tasks in their ranges, since a
 -- child that is accepted has its capacity within its deadline, and its workload fits, so of the refusals of a component only that one is left.
-use Prim.Native.Nat.{ℕ, zero, suc, _≤_, _<_}
+use Prim.Native.Nat.{ℕ, zero, suc, _≤_, _<_, zero-le}
 use native.Mathlib.Omega.{arith}
 use mathlib.Core.Bool.{true, not}
 use mathlib.Core.List.{List, [], _∷_, _++_}
@@ -157,7 +157,7 @@ tasks-valid (o ∷ os) w e =
     let a = w .0 (eqb-false (o .capacity) withheld (not-true (eqb (o .capacity) withheld) (b .0))) in
     let r = tasks-valid os (w .1) (b .1) in
     cases (λ (ks : List Task). validTasks ks ≡ true) (eqb (o .capacity) 0) (λ p. r)
-    (λ p. and-true (task-valid (asTask o) (record { works = omega (arith, eqb-false (o .capacity) 0 p); fits = a .fits; within = a .within; bounded = a .bounded })) r)
+    (λ p. and-true (task-valid (asTask o) (record { works = omega (arith, eqb-false (o .capacity) 0 p); fits = a .fits; within = a .within; bounded = a .bounded; late = zero-le })) r)
 
 valid-append : (ks js : List Task) → validTasks ks ≡ true → validTasks js ≡ true → validTasks (ks ++ js) ≡ true
 unfolding validTasks

@@ -43,9 +43,15 @@ offerIn (o ∷ os) n = cond (eqb (o .number) n) o (offerIn os n)
 abbrev pub isOffered : Offer → Bool
 isOffered o = not (eqb (o .capacity) withheld)
 
--- an interface (Π, Θ, Δ) as the task (T, C, D)
+-- an interface (Π, Θ, Δ) as the task (T, C, D), whose jobs are ready when they are released
 abbrev pub asTask : Offer → Task
-asTask o = record { period = record { 0 = o .period }; work = record { 0 = o .capacity }; deadline = record { 0 = o .deadline } }
+asTask o =
+    record {
+      period = record { 0 = o .period };
+      work = record { 0 = o .capacity };
+      deadline = record { 0 = o .deadline };
+      lateness = record { 0 = 0 };
+    }
 
 -- offers as the code holds them, in rows
 unfoldable pub offersIn : List ℕ → List ℕ → List ℕ → List ℕ → List Offer

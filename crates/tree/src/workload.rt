@@ -68,7 +68,8 @@ fn own_tasks(table: Table) -> Table
     own
 }
 
-// The table with what a child adds behind the others: its interface as a task, or nothing for capacity 0.
+// The table with what a child adds behind the others: its interface as a task, whose jobs are ready when they are released, or nothing
+// for capacity 0.
 fn with_child(table: Table, offer: Offer) -> Table
     ensures { λ r. ⌜ r ≡ cond (eqb (offer .capacity) 0) table (appended table (asTask offer)) ⌝ }
 {
@@ -80,6 +81,7 @@ fn with_child(table: Table, offer: Offer) -> Table
         period: Time(offer.period),
         work: Units(capacity),
         deadline: Time(offer.deadline),
+        lateness: Time(0),
     };
     append(table, task)
 }

@@ -8,7 +8,7 @@ use lib.Dec.{eqb}
 use lib.ListN.{length, getD}
 use Rattle.budget.specs.declared.task.Task.{Task}
 use Rattle.budget.specs.Limits.{limit, most-tasks}
-use Rattle.budget.specs.Task.{T, C, D, noTask}
+use Rattle.budget.specs.Task.{T, C, noTask, span}
 use Rattle.judge.specs.declared.steps.Columns.{Columns}
 use Rattle.judge.specs.declared.steps.Step.{Step}
 
@@ -17,11 +17,12 @@ pub record Column (of : Task → ℕ) (ks : List Task) (n : ℕ) (xs : List ℕ)
   pub long : length xs ≡ most-tasks
   pub holds : (j : ℕ) → j < n → getD xs j 0 ≡ of (getD ks j noTask)
 
--- the columns of a table as a run begins: each task's first deadline is its next
+-- the columns of a table as a run begins: each task's first deadline, with every job ready as late as it may be, is its next; in the places
+-- from the count on stands whatever the table has there
 pub record Columned (ks : List Task) (r : Columns) : Type 0 where
   pub period : Column (λ k. T k) ks most-tasks (r .period)
   pub work : Column (λ k. C k) ks most-tasks (r .work)
-  pub due : Column (λ k. D k) ks most-tasks (r .due)
+  pub due : Column (λ k. span k) ks most-tasks (r .due)
 
 -- the numbers are small enough for one step
 pub record Steppable (period work due : List ℕ) (count at asked : ℕ) : Type 0 where

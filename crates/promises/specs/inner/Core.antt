@@ -32,11 +32,11 @@ Balance = (left work unit : ℕ → ℕ) → Flow left work unit → (n : ℕ) �
 abbrev pub EarliestDeadlineFirst : Type 0
 EarliestDeadlineFirst = (ks : List Task) (jobs : List Job) (t : ℕ) → UrgentFirst (dueBy ks t) jobs (earliestDeadline ks jobs)
 
--- the work of the jobs that are released at a or later and due by a + u is at most the demand at u
+-- the work of the jobs that become ready at a or later and are due by a + u is at most the demand at u
 abbrev pub WorkWithinDemand : Type 0
 WorkWithinDemand =
     (ks : List Task) (jobs : List Job) → validTasks ks ≡ true → legalArrival ks jobs ≡ true → (a u : ℕ)
-    → workOf (λ j. leb a (j .release) && dueBy ks (a + u) j) jobs ≤ demand ks u
+    → workOf (λ j. leb a (j .ready) && dueBy ks (a + u) j) jobs ≤ demand ks u
 
 -- no run misses at t where demand is at most supply up to t
 abbrev pub NoMissWhileFitting : Type 0

@@ -7,7 +7,7 @@ use mathlib.Core.Path.{_≡_}
 use lib.ListN.{length, getD}
 use lib.Dec.{leb, ltb, eqb}
 use Rattle.budget.specs.declared.task.Task.{Task}
-use Rattle.run.specs.Job.{Job, deadline, noJob, ready}
+use Rattle.run.specs.Job.{Job, deadline, noJob}
 use Rattle.run.specs.Order.{waits}
 use Rattle.run.specs.Run.{Rule, leftBy}
 use Rattle.trace.specs.Units.{units}
@@ -45,10 +45,10 @@ unitOf s n = getD s n 0
 
 -- the urgent work that becomes ready in slot n, and the urgent work left at instant n of jobs that were ready before it
 unfoldable pub asked : (Job → Bool) → List Job → ℕ → ℕ
-asked urgent js n = workOf (λ j. eqb (ready j) n && urgent j) js
+asked urgent js n = workOf (λ j. eqb (j .ready) n && urgent j) js
 
 unfoldable pub waitingAt : (Job → Bool) → Rule → List Job → List ℕ → ℕ → ℕ
-waitingAt urgent rule js s n = leftOf (λ j. ltb (ready j) n && urgent j) js (leftBy rule js s n)
+waitingAt urgent rule js s n = leftOf (λ j. ltb (j .ready) n && urgent j) js (leftBy rule js s n)
 
 -- work that is left at each instant, where `work` arrives and `unit` is given in each slot: none at 0, and no unit is lost while some is left
 pub record Flow (left work unit : ℕ → ℕ) : Type 0 where

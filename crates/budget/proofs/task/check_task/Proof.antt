@@ -6,4 +6,4 @@ use Rattle.budget.proofs.task.check_task.Tie as tie
 
 pub check-task-spec : {M : Type 1} → statement M
 unfolding taskRefusal validTask
-check-task-spec = tie.close (tie.spec (λ c. search tests) (λ c. search tests) (λ c. search tests) (λ c. search tests) (λ c. search tests))
+check-task-spec = tie.close (tie.spec (λ c. search tests) (λ c. search tests) (λ c. search tests) (λ c. search tests) (λ c. search tests) (λ c. search tests))

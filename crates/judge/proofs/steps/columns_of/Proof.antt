@@ -5,7 +5,7 @@ use mathlib.Core.List.{List}
 use native.Mathlib.Omega.{arith}
 use borrow.Author.Needs.{needs}
 use Rattle.budget.specs.declared.task.Task.{Task}
-use Rattle.budget.specs.Task.{T, C, D}
+use Rattle.budget.specs.Task.{T, C, span}
 use Rattle.judge.specs.inner.Steps.{Column}
 use Rattle.judge.proofs.StepLoops.{column-none, column-more}
 use Rattle.judge.proofs.steps.columns_of.Statement.{statement}
@@ -13,7 +13,7 @@ use Rattle.judge.proofs.steps.columns_of.Tie as tie
 
 abbrev Inv-loop : tie.InvT-loop
 Inv-loop tasks period₀ work₀ due₀ i₀ period work due i =
-    (i ≤ 64) × Column (λ k. T k) tasks i period × Column (λ k. C k) tasks i work × Column (λ k. D k) tasks i due
+    (i ≤ 64) × Column (λ k. T k) tasks i period × Column (λ k. C k) tasks i work × Column (λ k. span k) tasks i due
 
 abbrev μ-loop : tie.MeasureT-loop
 μ-loop tasks period₀ work₀ due₀ i₀ period work due i = 64 - i
@@ -26,9 +26,9 @@ loop-holds c = (search needs, column-none _ _ _ refl, column-none _ _ _ refl, co
 
 loop-again : tie.Need-loop-again Inv-loop μ-loop
 loop-again c =
-    let h = c .before .loop-test .taken in
-    let inv = c .before .before .loop .inv in
-    (omega arith, column-more _ _ _ _ h (inv .1), column-more _ _ _ _ h (inv .2), column-more _ _ _ _ h (inv .3))
+    let h = c .before .before .loop-test .taken in
+    let inv = c .before .before .before .loop .inv in
+    (omega arith, column-more _ _ _ _ h (inv .1), column-more _ _ _ _ h (inv .2), rw (c .span .ensures) (column-more _ _ _ _ h (inv .3)))
 
 returns : tie.Need-returns Inv-loop μ-loop
 returns c =
@@ -49,6 +49,7 @@ columns-of-spec =
     (λ c. omega arith)
     (λ c. omega arith)
     (λ c. omega arith)
+    (λ c κs. search needs)
     (λ c. omega arith)
     (λ c. omega arith)
     (λ c. omega arith)

@@ -24,6 +24,10 @@ returns-5 : tie.Need-returns-5
 unfolding rowOf
 returns-5 c = rw (c .match .keys5)
 
+returns-6 : tie.Need-returns-6
+unfolding rowOf
+returns-6 c = rw (c .match .keys6)
+
 pub row-of-spec : {M : Type 1} → statement M
 unfolding rowOf
-row-of-spec = tie.close (tie.spec returns returns-2 returns-3 returns-4 returns-5 (λ c. search tests))
+row-of-spec = tie.close (tie.spec returns returns-2 returns-3 returns-4 returns-5 returns-6 (λ c. search tests))

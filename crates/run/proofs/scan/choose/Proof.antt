@@ -9,7 +9,7 @@ use borrow.Author.Needs.{needs}
 use native.Mathlib.Nat.{zero-add}
 use native.Mathlib.Omega.{arith}
 use Rattle.budget.specs.declared.task.Task.{Task}
-use Rattle.run.specs.inner.Columns.{Deadlines, Tasks, Releases}
+use Rattle.run.specs.inner.Columns.{Deadlines, Tasks, Readiness}
 use Rattle.run.specs.Job.{Job}
 use Rattle.run.specs.Order.{next}
 use Rattle.run.proofs.Scans.{next-end, next-step, taken-waits, column-length}
@@ -17,20 +17,20 @@ use Rattle.run.proofs.scan.choose.Statement.{statement}
 use Rattle.run.proofs.scan.choose.Tie as tie
 
 abbrev Inv-loop : tie.InvT-loop
-Inv-loop due tasks releases left n first₀ i₀ first i = (i ≤ length left)
+Inv-loop due tasks ready left n first₀ i₀ first i = (i ≤ length left)
     × (first < length left → 0 < getD left first 0)
-    × ((ks : List Task) (js : List Job) → Deadlines ks js due → Tasks js tasks → Releases js releases
+    × ((ks : List Task) (js : List Job) → Deadlines ks js due → Tasks js tasks → Readiness js ready
     → i + next ks n (drop i js) (drop i left) ≡ first)
 
 abbrev μ-loop : tie.MeasureT-loop
-μ-loop due tasks releases left n first₀ i₀ first i = i
+μ-loop due tasks ready left n first₀ i₀ first i = i
 
 loop-holds : tie.Need-loop-holds Inv-loop μ-loop
 loop-holds c =
     let a = c .before .before .before .before .args in (
       search needs,
       (λ h. omega arith),
-      (λ ks js dues tasks releases. next-end ks (a .n) js (now (a .left)) (length (now (a .left))) (omega (arith, column-length _ js _ dues))),
+      (λ ks js dues tasks readiness. next-end ks (a .n) js (now (a .left)) (length (now (a .left))) (omega (arith, column-length _ js _ dues))),
     )
 
 loop-again : tie.Need-loop-again Inv-loop μ-loop
@@ -40,17 +40,17 @@ loop-again c =
     let k = h .loop .i - 1 in (
       search needs,
       subst (λ (r : ℕ). r < length (now (a .left)) → 0 < getD (now (a .left)) r 0) (sym (c .first-of .ensures))
-          (taken-waits (now (a .due)) (now (a .tasks)) (now (a .releases)) (now (a .left)) (a .n) k (h .loop .first) (h .loop .inv .1)),
-      (λ ks js dues tasks releases.
-          next-step ks (a .n) js (now (a .due)) (now (a .tasks)) (now (a .releases)) (now (a .left)) dues tasks releases
-          (omega (arith, column-length _ js _ dues)) k (h .loop .i) (h .loop .first) (omega arith) (omega arith) (h .loop .inv .2 ks js dues tasks releases)
+          (taken-waits (now (a .due)) (now (a .tasks)) (now (a .ready)) (now (a .left)) (a .n) k (h .loop .first) (h .loop .inv .1)),
+      (λ ks js dues tasks readiness.
+          next-step ks (a .n) js (now (a .due)) (now (a .tasks)) (now (a .ready)) (now (a .left)) dues tasks readiness
+          (omega (arith, column-length _ js _ dues)) k (h .loop .i) (h .loop .first) (omega arith) (omega arith) (h .loop .inv .2 ks js dues tasks readiness)
           ∙ sym (c .first-of .ensures)),
     )
 
 returns : tie.Need-returns Inv-loop μ-loop
 returns c =
     let done : c .before .loop .i ≡ 0 = omega arith in (
-      λ ks js dues tasks releases. sym (rw (done, zero-add) at (c .before .loop .inv .2 ks js dues tasks releases)),
+      λ ks js dues tasks readiness. sym (rw (done, zero-add) at (c .before .loop .inv .2 ks js dues tasks readiness)),
       c .before .loop .inv .1,
     )
 

@@ -10,15 +10,15 @@ use Rattle.run.proofs.scan.serve_slot.Tie as tie
 returns : tie.Need-returns
 returns c =
     let a = c .before .before .before .before .before .args in
-    (λ ks js dues tasks releases. not-supplied ks js (a .n) (a .byte) (now (a .left)) (c .if1 .taken), search needs)
+    (λ ks js dues tasks readiness. not-supplied ks js (a .n) (a .byte) (now (a .left)) (c .if1 .taken), search needs)
 
 returns-2 : tie.Need-returns-2
 returns-2 c =
     let s = c .before .before .before .before .before .before .before .before in
     let a = s .args in (
-      λ ks js dues tasks releases.
+      λ ks js dues tasks readiness.
           none-waits ks js (a .n) (a .byte) (now (a .left)) (c .before .choose .result) (c .before .before .before .if1 .left)
-          (c .before .choose .ensures .0 ks js dues tasks releases) (omega (arith, column-length _ js _ dues, s .pre)) (c .if2 .taken),
+          (c .before .choose .ensures .0 ks js dues tasks readiness) (omega (arith, column-length _ js _ dues, s .pre)) (c .if2 .taken),
       search needs,
     )
 
@@ -29,9 +29,9 @@ returns-3 : tie.Need-returns-3
 returns-3 c =
     let s = c .before .before .before .before .before .before .before .before .before in
     let a = s .args in (
-      λ ks js dues tasks releases.
+      λ ks js dues tasks readiness.
           one-served ks js (a .n) (a .byte) (now (a .left)) (c .before .before .choose .result) (c .before .before .before .before .if1 .left)
-          (c .before .before .choose .ensures .0 ks js dues tasks releases) (omega (arith, column-length _ js _ dues, s .pre)) (c .before .if2 .left),
+          (c .before .before .choose .ensures .0 ks js dues tasks readiness) (omega (arith, column-length _ js _ dues, s .pre)) (c .before .if2 .left),
       search needs,
     )
 

@@ -21,14 +21,14 @@ start c = c .before .before .before .before .before .before
 abbrev refused : tie.Start → ℕ
 refused s =
     let a = s .args in
-    walkRefusal (a .table) (now (a .tasks)) (now (a .releases)) (now (a .works)) (now (a .trace)) (a .room)
+    walkRefusal (a .table) (now (a .tasks)) (now (a .releases)) (now (a .ready)) (now (a .works)) (now (a .trace)) (a .room)
 
 -- what is left of it past each test: past the table the jobs decide, past the jobs the trace, past the trace the room
 table-fine : (c : tie.Else1) → tableRefusal (start c .args .table) ≡ 0
 table-fine c = sym (c .before .check-table .ensures) ∙ c .if1 .left
 
 past-table : (c : tie.Else1) (b : Bool) → let a = start c .args in
-    b ≡ validJobs (tasksOf (a .table)) (now (a .tasks)) (now (a .releases)) (now (a .works)) (length (now (a .trace)))
+    b ≡ validJobs (tasksOf (a .table)) (now (a .tasks)) (now (a .releases)) (now (a .ready)) (now (a .works)) (length (now (a .trace)))
     → refused (start c) ≡ cond b (cond (validTrace (now (a .trace))) (cond (eqb (a .room) (length (now (a .tasks)))) 0 refusal.room) refusal.bad-trace) refusal.jobs
 unfolding walkRefusal
 past-table c b e = rw (eq-eqb _ 0 (table-fine c), ← e)

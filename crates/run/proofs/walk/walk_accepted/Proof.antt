@@ -12,7 +12,7 @@ use Rattle.run.proofs.walk.walk_accepted.Tie as tie
 
 -- no more jobs than there is room for deadlines
 few : (s : tie.Start) → length (now (s .args .tasks)) ≤ most-jobs
-few s = accepted _ _ _ _ _ _ (s .pre) .few
+few s = accepted _ _ _ _ _ _ _ (s .pre) .few
 
 array-borrow-prefix-due : tie.Need-array-borrow-prefix-due
 array-borrow-prefix-due c = few (c .before .before .before .before .before)

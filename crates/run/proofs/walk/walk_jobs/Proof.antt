@@ -13,8 +13,8 @@ use Rattle.run.proofs.walk.walk_jobs.Statement.{statement}
 use Rattle.run.proofs.walk.walk_jobs.Tie as tie
 
 -- what is accepted keeps the rules, and every place of the table's count stands in the table
-rules : (s : tie.Start) → let a = s .args in Accepted (a .table) (now (a .tasks)) (now (a .releases)) (now (a .works)) (now (a .trace)) (length (now (a .left)))
-rules s = accepted _ _ _ _ _ _ (s .pre .0)
+rules : (s : tie.Start) → let a = s .args in Accepted (a .table) (now (a .tasks)) (now (a .releases)) (now (a .ready)) (now (a .works)) (now (a .trace)) (length (now (a .left)))
+rules s = accepted _ _ _ _ _ _ _ (s .pre .0)
 
 room : (s : tie.Start) → s .args .table .count ≤ length (s .args .table .tasks)
 room s = let few = rules s .tasks .few in search (needs, in-array)
@@ -26,7 +26,7 @@ deadlines-requires c κs =
       rules s .tasks .few,
       rules s .releases-long,
       s .pre .1,
-      job-fine (a .table) (now (a .tasks)) (now (a .releases)) (now (a .works)) (now (a .trace)) _ (room s) (rules s),
+      job-fine (a .table) (now (a .tasks)) (now (a .releases)) (now (a .ready)) (now (a .works)) (now (a .trace)) _ (room s) (rules s),
     )
 
 whole-work-requires : tie.Need-whole-work-requires
@@ -42,7 +42,7 @@ walk-slots-requires c κs =
     let long : length (w .whole-work .last .1 .0) ≡ length (now (s .args .tasks)) = w .whole-work .kept .1 .0 ∙ rules s .room-is in (
       d .deadlines .kept .1 .1 .1 .0 ∙ s .pre .1 ∙ sym long,
       sym long,
-      rules s .releases-long ∙ sym long,
+      rules s .ready-long ∙ sym long,
       rules s .short,
     )
 
@@ -53,12 +53,12 @@ returns c =
     let d = w .before .before .before .before in
     let s = d .before .before .before .before .before .before .before .before in
     let a = s .args in
-    let js = jobsOf (now (a .tasks)) (now (a .releases)) (now (a .works)) in
-    let l = lists (now (a .tasks)) (now (a .releases)) (now (a .works)) (rules s .releases-long) (rules s .works-long) in
-    let done = v .walk-slots .ensures (tasksOf (a .table)) js (sym (d .deadlines .ensures js (l .tasks) (l .releases))) (l .tasks) (l .releases)
+    let js = jobsOf (now (a .tasks)) (now (a .releases)) (now (a .ready)) (now (a .works)) in
+    let l = lists (now (a .tasks)) (now (a .releases)) (now (a .ready)) (now (a .works)) (rules s .releases-long) (rules s .ready-long) (rules s .works-long) in
+    let done = v .walk-slots .ensures (tasksOf (a .table)) js (sym (d .deadlines .ensures js (l .tasks) (l .releases))) (l .tasks) (l .readiness)
     (l .works ∙ sym (w .whole-work .ensures)) in (
-      done .0 ∙ sym (answer-accepted (a .table) (now (a .tasks)) (now (a .releases)) (now (a .works)) (now (a .trace)) (length (now (a .left))) (s .pre .0)),
-      done .1 ∙ sym (left-accepted (a .table) (now (a .tasks)) (now (a .releases)) (now (a .works)) (now (a .trace)) (now (a .left)) (s .pre .0)),
+      done .0 ∙ sym (answer-accepted (a .table) (now (a .tasks)) (now (a .releases)) (now (a .ready)) (now (a .works)) (now (a .trace)) (length (now (a .left))) (s .pre .0)),
+      done .1 ∙ sym (left-accepted (a .table) (now (a .tasks)) (now (a .releases)) (now (a .ready)) (now (a .works)) (now (a .trace)) (now (a .left)) (s .pre .0)),
     )
 
 pub walk-jobs-spec : {M : Type 1} → statement M

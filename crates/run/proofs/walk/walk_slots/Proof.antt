@@ -9,21 +9,21 @@ use denote.Ref.{now}
 use borrow.Author.Needs.{needs}
 use native.Mathlib.Omega.{arith}
 use Rattle.budget.specs.declared.task.Task.{Task}
-use Rattle.run.specs.inner.Columns.{Deadlines, Tasks, Releases, Works}
+use Rattle.run.specs.inner.Columns.{Deadlines, Tasks, Readiness, Works}
 use Rattle.run.specs.Job.{Job}
 use Rattle.run.proofs.Walking.{Walking, begin, step, stopped, answers}
 use Rattle.run.proofs.walk.walk_slots.Statement.{statement}
 use Rattle.run.proofs.walk.walk_slots.Tie as tie
 
 abbrev Inv-loop : tie.InvT-loop
-Inv-loop due tasks releases trace left₀ t₀ served₀ idle₀ left t served idle = (length left ≡ length left₀)
+Inv-loop due tasks ready trace left₀ t₀ served₀ idle₀ left t served idle = (length left ≡ length left₀)
     × (t ≤ length trace)
     × (served + idle ≤ t)
-    × ((ks : List Task) (js : List Job) → Deadlines ks js due → Tasks js tasks → Releases js releases
+    × ((ks : List Task) (js : List Job) → Deadlines ks js due → Tasks js tasks → Readiness js ready
     → Works js left₀ → Walking ks js trace t left served idle)
 
 abbrev μ-loop : tie.MeasureT-loop
-μ-loop due tasks releases trace left₀ t₀ served₀ idle₀ left t served idle = length trace - t
+μ-loop due tasks ready trace left₀ t₀ served₀ idle₀ left t served idle = length trace - t
 
 loop-holds : tie.Need-loop-holds Inv-loop μ-loop
 loop-holds c =
@@ -31,7 +31,7 @@ loop-holds c =
       search needs,
       search needs,
       search needs,
-      (λ ks js dues tasks releases works. begin ks js (now (a .trace)) (now (a .left)) works),
+      (λ ks js dues tasks readiness works. begin ks js (now (a .trace)) (now (a .left)) works),
     )
 
 loop-again : tie.Need-loop-again Inv-loop μ-loop
@@ -43,18 +43,18 @@ loop-again c =
       search needs,
       search needs,
       search needs,
-      (λ ks js dues tasks releases works.
+      (λ ks js dues tasks readiness works.
           let late = e .before .late-task .ensures ks js dues tasks in
-          step ks js (now (a .trace)) (h .loop .t) (h .loop .left) _ (h .loop .served) (h .loop .idle) _ _ (h .loop .inv .3 ks js dues tasks releases works)
-          (e .before .before .before .loop-test .taken) (omega arith) (v .serve-slot .ensures .0 ks js dues tasks releases)),
+          step ks js (now (a .trace)) (h .loop .t) (h .loop .left) _ (h .loop .served) (h .loop .idle) _ _ (h .loop .inv .3 ks js dues tasks readiness works)
+          (e .before .before .before .loop-test .taken) (omega arith) (v .serve-slot .ensures .0 ks js dues tasks readiness)),
     )
 
 returns : tie.Need-returns Inv-loop μ-loop
 returns c =
     let h = c .before .before .before .before in
     let a = h .before .before .before .before .before .before .args in
-    λ ks js dues tasks releases works.
-    let w = h .loop .inv .3 ks js dues tasks releases works in
+    λ ks js dues tasks readiness works.
+    let w = h .loop .inv .3 ks js dues tasks readiness works in
     answers ks js (now (a .trace)) (h .loop .t) (h .loop .left) (h .loop .served) (h .loop .idle) w
     (stopped ks js (now (a .trace)) (h .loop .t) (h .loop .left) (h .loop .served) (h .loop .idle) w
     (⊎-elim (λ out. inr (omega arith)) (λ out. inl (rw (out .2 .ensures ks js dues tasks) at (out .3 .taken))) (c .before .before .before .loop-test .came)))

@@ -15,7 +15,7 @@ after-head-requires c κs = let a = c .before .before .before .before .before .a
 
 after-task-requires : tie.Need-after-task-requires
 after-task-requires c κs = let a = c .before .before .before .before .before .args in
-    task-fits (a .state) (a .«record») _ (c .before .before .before .before .check-record .ensures) (c .before .before .before .if1 .left) _ (c .before .record2 .given .1) (c .before .before .before .before .before .pre)
+    task-fits (a .state) (a .«record») _ (c .before .before .before .before .check-record .ensures) (c .before .before .before .if1 .left) _ _ (c .before .record2 .given .1) (c .before .before .before .before .before .pre)
 
 returns-2 : tie.Need-returns-2
 unfolding after ended

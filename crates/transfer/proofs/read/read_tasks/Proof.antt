@@ -61,7 +61,7 @@ add-place c = let a = c .before .before .before .before .before .before .before 
 loop-again : tie.Need-loop-again Inv-loop μ-loop
 loop-again c = let a = c .before .before .before .before .before .before .before .before .before .before .before .args in
     let l = c .before .before .before .before .before .before .before .before .loop in
-    taking-more (a .part .now) (a .start) (l .table) (l .place) _ _ _ (c .before .before .before .before .before .record-of .ensures) (c .before .before .before .«record» .given .1) (c .size-of .ensures)
+    taking-more (a .part .now) (a .start) (l .table) (l .place) _ _ _ _ (c .before .before .before .before .before .record-of .ensures) (c .before .before .before .«record» .given .1) (c .size-of .ensures)
     (l .left) (l .inv) (c .before .before .before .before .before .before .before .loop-test .taken) _ (c .before .append .ensures)
 
 returns-5 : tie.Need-returns-5 Inv-loop μ-loop

@@ -1,10 +1,6 @@
 -- Refused as the ranges are, else as the room is: the size is the length of the component's bytes.
-use native.Mathlib.Omega.{arith}
-use lib.ListN.{length}
 use borrow.Author.Tests.{ne-eqb}
-use Rattle.transfer.proofs.StoreLaws.{component-length}
-use mathlib.Core.Path.{_≡_, sym, _∙_}
-use Rattle.budget.proofs.Places.{length-mapped}
+use mathlib.Core.Path.{sym, _∙_}
 use Rattle.budget.proofs.Ranges.{in-range}
 use Rattle.transfer.specs.Writing.{writingRefusal}
 use borrow.Author.Needs.{needs}
@@ -20,12 +16,8 @@ component-size-requires c κs = in-range (c .before .before .args .component) (s
 
 returns-2 : tie.Need-returns-2
 unfolding writingRefusal
-returns-2 c = let a = c .before .before .before .before .args in
-    let r = sym (c .before .before .before .check-ranges .ensures) ∙ c .before .before .if1 .left in
-    let full : length (a .component .table .tasks) ≡ 64 = search (needs, length-mapped) in
-    let few = in-range (a .component) r .count in
-    let size = c .before .component-size .ensures ∙ sym (component-length (a .component) (omega arith)) in
-    rw (r, ← size) (c .check-room .ensures)
+returns-2 c = let r = sym (c .before .before .before .check-ranges .ensures) ∙ c .before .before .if1 .left in
+    rw (r, ← c .before .component-size .ensures) (c .check-room .ensures)
 
 pub check-writing-spec : {M : Type 1} → statement M
 check-writing-spec =

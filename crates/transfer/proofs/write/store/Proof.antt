@@ -1,14 +1,14 @@
 -- The component's record, then the tasks behind it, are the component's bytes stored in the buffer.
-use Prim.Native.Nat.{ℕ, _+_, _*_, _≤_}
-use mathlib.Core.Path.{_≡_, ap}
+use Prim.Native.Nat.{ℕ, _+_, _≤_}
+use mathlib.Core.Path.{_≡_}
 use native.Mathlib.Omega.{arith}
 use lib.ListN.{length}
 use Rattle.budget.specs.declared.component.Component.{Component}
-use Rattle.budget.proofs.Places.{length-mapped}
+use Rattle.budget.specs.Task.{tasksOf}
 use Rattle.budget.proofs.Ranges.{in-range}
 use Rattle.record.specs.Layout.{headSize, recordBytes}
-use Rattle.transfer.specs.Writing.{componentBytes}
-use Rattle.transfer.proofs.StoreLaws.{most-head, component-length, writable, head-place, head-long, stored-component}
+use Rattle.transfer.specs.Writing.{tasksBytes, componentBytes}
+use Rattle.transfer.proofs.StoreLaws.{component-length, writable, head-place, head-long, stored-component}
 use borrow.Author.Needs.{needs}
 use Rattle.transfer.proofs.write.store.Statement.{statement}
 use Rattle.transfer.proofs.write.store.Tie as tie
@@ -16,17 +16,15 @@ use Rattle.transfer.proofs.write.store.Tie as tie
 -- what the requirement grants: the table has no more tasks than places, and the buffer has room for the whole component
 record Free (room at : ℕ) (c : Component) : Type 0 where
   count : c .table .count ≤ 64
-  size : length (componentBytes c) ≡ headSize (c .capacity) + 16 * c .table .count
+  size : length (componentBytes c) ≡ headSize (c .capacity) + length (tasksBytes (tasksOf (c .table)))
   fits : at + length (componentBytes c) ≤ room
-  head : headSize (c .capacity) ≤ 18
 
 free : (c : tie.Start) → Free (length (c .args .buffer .now)) (c .args .at) (c .args .component)
 free c =
     let a = c .args in
     let w = writable (length (a .buffer .now)) (a .at) (a .component) (c .pre) in
     let few = in-range (a .component) (w .ranges) .count in
-    let full : length (a .component .table .tasks) ≡ 64 = search (needs, length-mapped) in
-    record { count = few; size = component-length (a .component) (omega arith); fits = w .fits; head = most-head (a .component .capacity) }
+    record { count = few; size = component-length (a .component); fits = w .fits }
 
 write-tasks-requires : tie.Need-write-tasks-requires
 unfolding recordBytes
