@@ -4,11 +4,9 @@ use crate::answer::reply_of;
 use budget::refusal;
 use record::write::write_numbers;
 use transfer::pair::read_pairs;
-use transfer::read::read_at;
 use transfer::reply::write_reply;
 use tree::answer::Outcome;
-use tree::offer::offer_of;
-use tree::outcome::judge_next;
+use tree::turn::turn_at;
 ghost use mathlib.Core.Path.{_≡_};
 ghost use Prim.Native.Nat.{_+_, _*_, _≤_, _<_};
 ghost use lib.ListN.{length};
@@ -52,28 +50,19 @@ pub(crate) fn put_all(sheet: &[u8], edges: &[usize; 257], count: usize, reply: &
     let pairs = read.count;
     let children = read.children;
     let parents = read.parents;
-    let mut numbers = [0u16; 256];
-    let mut capacities = [0u32; 256];
-    let mut periods = [0u32; 256];
-    let mut deadlines = [0u32; 256];
+    let mut offers = [0u32; 1024];
     let mut k = 0;
     while k < count {
-        let component = read_at(sheet, edges, k);
-        let outcome = judge_next(
-            component,
+        let turn = turn_at(
+            sheet,
+            edges,
             &children[..pairs],
             &parents[..pairs],
-            &numbers[..k],
-            &capacities[..k],
-            &periods[..k],
-            &deadlines[..k],
+            k,
+            &mut offers,
         );
-        let offer = offer_of(component, outcome);
-        numbers[k] = offer.number;
-        capacities[k] = offer.capacity;
-        periods[k] = offer.period;
-        deadlines[k] = offer.deadline;
-        put_entry(component.number, outcome, edges[k], reply, at + 36 * k);
+        let outcome = turn.outcome;
+        put_entry(turn.number, outcome, edges[k], reply, at + 36 * k);
         k += 1;
     }
 }

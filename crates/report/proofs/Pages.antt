@@ -7,7 +7,6 @@ use mathlib.Core.List.{List, _++_}
 use lib.ListN.{length, take, drop, length-append}
 use borrow.Author.Tests.{eq-eqb, ne-eqb}
 use lib.Seq.{sets, length-sets, sets-eq, take-at}
-use Rattle.budget.specs.declared.component.Component.{Component}
 use Rattle.budget.specs.Refusal as refusal
 use Rattle.sheet.specs.declared.check.Checked.{Checked}
 use Rattle.sheet.specs.Check.{check}
@@ -45,12 +44,12 @@ pub no-lines : (s page : List ℕ) → Lines s page 0 page 0
 unfolding componentLines
 no-lines s page = record { place = refl; bytes = refl; room = omega arith }
 
-pub one-more-line : (s page : List ℕ) (k : ℕ) {now after : List ℕ} {at r : ℕ} (c : Component) (o : Outcome) → c ≡ reading s k .component → o ≡ outcomeAt s k
-    → Lines s page k now at → Paged now at (componentLine (c .number) o) after r → Lines s page (k + 1) after r
+pub one-more-line : (s page : List ℕ) (k : ℕ) {now after : List ℕ} {at r number : ℕ} {o : Outcome} → number ≡ reading s k .component .number → o ≡ outcomeAt s k
+    → Lines s page k now at → Paged now at (componentLine number o) after r → Lines s page (k + 1) after r
 unfolding componentLines
-one-more-line s page k {now} {after} {at} {r} c o is judged l p =
+one-more-line s page k {now} {after} {at} {r} {number} {o} is judged l p =
     let lines = componentLines s k in
-    let line = componentLine (c .number) o in
+    let line = componentLine number o in
     let next : componentLines s (k + 1) ≡ lines ++ line = rw (add-one, ← is, ← judged) in
     record {
       place = omega (arith, p .place, l .place, ap length next, length-append lines line);

@@ -6,10 +6,8 @@ use crate::text::Line;
 use budget::refusal;
 use sheet::contents::contents_of;
 use transfer::pair::read_pairs;
-use transfer::read::read_at;
 use tree::answer::Outcome;
-use tree::offer::offer_of;
-use tree::outcome::judge_next;
+use tree::turn::turn_at;
 ghost use Prim.Native.Nat.{_+_, _≤_};
 ghost use lib.ListN.{length, take};
 ghost use Rattle.report.specs.Lines.{componentLine, endLine, refusedLine};
@@ -70,29 +68,20 @@ fn add_components(sheet: &[u8], edges: &[usize; 257], count: usize, page: &mut P
     let pairs = read.count;
     let children = read.children;
     let parents = read.parents;
-    let mut numbers = [0u16; 256];
-    let mut capacities = [0u32; 256];
-    let mut periods = [0u32; 256];
-    let mut deadlines = [0u32; 256];
+    let mut offers = [0u32; 1024];
     let mut at = 0;
     let mut k = 0;
     while k < count {
-        let component = read_at(sheet, edges, k);
-        let outcome = judge_next(
-            component,
+        let turn = turn_at(
+            sheet,
+            edges,
             &children[..pairs],
             &parents[..pairs],
-            &numbers[..k],
-            &capacities[..k],
-            &periods[..k],
-            &deadlines[..k],
+            k,
+            &mut offers,
         );
-        let offer = offer_of(component, outcome);
-        numbers[k] = offer.number;
-        capacities[k] = offer.capacity;
-        periods[k] = offer.period;
-        deadlines[k] = offer.deadline;
-        at = add_component(page, at, component.number, outcome);
+        let outcome = turn.outcome;
+        at = add_component(page, at, turn.number, outcome);
         k += 1;
     }
     at

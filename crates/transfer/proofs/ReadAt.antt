@@ -4,11 +4,11 @@ use native.Mathlib.Omega.{arith}
 use mathlib.Core.Path.{sym}
 use borrow.Author.Tests.{lt-leb, le-ltb}
 use Rattle.sheet.proofs.ContentsLaws.{taken, edges-never-fall, edges-within}
-use Rattle.transfer.specs.ReadAt.{ReadAtReads, readAt}
+use Rattle.transfer.specs.ReadAt.{ReadAtReads, partAt, readAt}
 use Rattle.transfer.proofs.ReadLaws.{read-between}
 
 pub read-at-reads : ReadAtReads
-unfolding readAt
+unfolding partAt readAt
 read-at-reads s e k h =
     let few = taken s e .few in
     let order = edges-never-fall s e k h in

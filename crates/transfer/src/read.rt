@@ -16,7 +16,7 @@ ghost use Prim.Native.Nat.{_≤_};
 ghost use lib.ListN.{length, drop};
 ghost use Rattle.budget.specs.Task.{tableOf};
 ghost use Rattle.record.specs.Layout.{sizeOf, recordOf};
-ghost use Rattle.transfer.specs.ReadAt.{readAt};
+ghost use Rattle.transfer.specs.ReadAt.{partAt, readAt};
 ghost use Rattle.transfer.specs.Reading.{tasksIn, componentFrom, reading};
 
 // What a reading answers; refused: the component number 0, stated (1, 1, 1), without tasks.
@@ -122,20 +122,28 @@ pub fn read_component(sheet: &[u8], place: usize) -> Reading
     }
 }
 
-// Reads the component at a place of a sheet whose edges are known, without another walk. Edges that do not lie in the sheet in their order hold none.
-pub fn read_at(sheet: &[u8], edges: &[usize; 257], place: usize) -> Component
-    ensures { λ r. ⌜ r ≡ readAt (now (sheet .entry)) (now (edges .entry)) place ⌝ }
+// The part of a sheet between two edges that are known, without another walk. Edges that do not lie in the sheet in their order hold an empty one.
+pub fn part_at<'a>(sheet: &'a [u8], edges: &[usize; 257], place: usize) -> &'a [u8]
+    ensures { λ r. ⌜ now r ≡ partAt (now (sheet .entry)) (now (edges .entry)) place ⌝ }
 {
     if MOST_COMPONENTS <= place {
-        return refused();
+        return &sheet[..0];
     }
     let from = edges[place];
     let to = edges[place + 1];
     if to < from {
-        return refused();
+        return &sheet[..0];
     }
     if sheet.len() < to {
-        return refused();
+        return &sheet[..0];
     }
-    read_part(&sheet[from..to])
+    &sheet[from..to]
+}
+
+// Reads the component at a place of a sheet whose edges are known.
+pub fn read_at(sheet: &[u8], edges: &[usize; 257], place: usize) -> Component
+    ensures { λ r. ⌜ r ≡ readAt (now (sheet .entry)) (now (edges .entry)) place ⌝ }
+{
+    let part = part_at(sheet, edges, place);
+    read_part(part)
 }

@@ -173,11 +173,11 @@ unfolding offerOf
 offer-number c Outcome.Waiting = refl
 offer-number c (Outcome.Judged j m) = offered-number c j
 
--- one component more: as it is read, answered and offers
+-- one component more, and what it offers
 pub offers-next : (ws : List ℕ) (ps : List Pair) (at : ℕ → Component) (k : ℕ) (os : List Offer) → os ≡ offersBelow ws ps at k
-    → (c : Component) → c ≡ at k → (x : Outcome) → x ≡ outcomeWanted ws ps os c → (o : Offer) → o ≡ offerOf c x → offersBelow ws ps at (k + 1) ≡ offersBelow ws ps at k ++ (o ∷ [])
+    → (o : Offer) → o ≡ offerOf (at k) (outcomeWanted ws ps os (at k)) → offersBelow ws ps at (k + 1) ≡ offersBelow ws ps at k ++ (o ∷ [])
 unfolding offersBelow
-offers-next ws ps at k os held c read x answered o offers = rw (add-one k, offers, answered, read, held)
+offers-next ws ps at k os held o offers = rw (add-one k, offers, held)
 
 -- all offers, of components judged one after the other
 pub record Judging (ps : List Pair) (at : ℕ → Component) (count : ℕ) (full : ℕ → List Offer) : Type 0 where

@@ -1,11 +1,11 @@
--- One pass over the components of a taken sheet, in their order: rows hold the offers of those that are passed, so the next is judged by the rows as
--- in its tree, and its own offer makes the rows longer by one entry.
-use Prim.Native.Nat.{ℕ, _+_, _-_, _≤_, _<_}
+-- One pass over the components of a taken sheet, in their order: a row holds the offers of those that are passed, so the next is judged by the row as
+-- in its tree, and its own offer is noted behind them.
+use Prim.Native.Nat.{ℕ, _+_, _*_, _-_, _≤_, _<_}
 use native.Mathlib.Numerals.{add-one}
 use native.Mathlib.Omega.{arith}
 use mathlib.Core.Path.{_≡_, refl, sym, ap, ap₂, _∙_}
 use mathlib.Core.List.{List, [], _∷_, _++_, map}
-use lib.ListN.{length, getD, set, take, drop, length-append, length-map}
+use lib.ListN.{length, getD, take, drop, length-append, length-map}
 use lib.Seq.{length-take-le}
 use Rattle.budget.specs.declared.component.Component.{Component}
 use Rattle.budget.specs.Refusal as refusal
@@ -22,14 +22,13 @@ use Rattle.transfer.specs.ReadAt.{readAt}
 use Rattle.transfer.specs.Reading.{reading}
 use Rattle.transfer.proofs.PairReads.{table-is}
 use Rattle.transfer.proofs.ReadAt.{read-at-reads}
-use Rattle.tree.specs.declared.offer.Offer.{Offer}
-use Rattle.tree.specs.declared.answer.Outcome.{Outcome}
-use Rattle.tree.specs.Offer.{offerOf, offersIn}
-use Rattle.tree.specs.Outcome.{outcomeOf}
+use Rattle.tree.specs.declared.turn.Turn.{Turn}
+use Rattle.tree.specs.Offer.{offerOf}
 use Rattle.tree.specs.Tree.{loadAt, offersTo, outcomeAt}
-use Rattle.tree.specs.Workload.{loadOn, pairsFrom}
+use Rattle.tree.specs.Workload.{pairsFrom}
 use Rattle.tree.specs.inner.Known.{Known}
-use Rattle.tree.proofs.OfferLaws.{Rows, rows-none, rows-more, pairs-of-rows}
+use Rattle.tree.specs.inner.Turned.{Turned}
+use Rattle.tree.proofs.OfferLaws.{Row, row-none, row-more, pairs-of-rows}
 
 pub checked-is : (s : List ℕ) (x : Contents) → x ≡ contentsOf s → x .checked ≡ check s
 unfolding contentsOf
@@ -40,14 +39,14 @@ known s x e h =
     let same = checked-is s x e in
     record { taken = sym (ap (λ (d : Checked). d .refusal) same) ∙ h; edges = ap (λ (y : Contents). y .edges) e; count = ap (λ (d : Checked). d .count) same }
 
--- where the pass stands: the first k components are passed, these rows have the sheet's pairs and those have their offers
-pub record Passing (s : List ℕ) (count pairs : ℕ) (children parents : List ℕ) (k : ℕ) (numbers capacities periods deadlines : List ℕ) : Type 0 where
+-- where the pass stands: the first k components are passed, two rows have the sheet's pairs and a third has their offers
+pub record Passing (s : List ℕ) (count pairs : ℕ) (children parents : List ℕ) (k : ℕ) (row : List ℕ) : Type 0 where
   pub within : k ≤ count
   pub few : count ≤ 256
   pub children-long : pairs ≤ length children
   pub parents-long : pairs ≤ length parents
   pub paired : pairsFrom (take pairs children) (take pairs parents) ≡ pairsOf s
-  pub rows : Rows numbers capacities periods deadlines k (offersTo s k)
+  pub offers : Row row k (offersTo s k)
 
 -- a part of a row has as many entries as were lent
 pub lent-count : (k : ℕ) (xs : List ℕ) → k ≤ length xs → k ≡ length (take k xs)
@@ -73,10 +72,9 @@ module _ {s edges : List ℕ} {count : ℕ} (w : Known s edges count) where
 
   -- nothing is passed, and the pairs are read
   pub passing-none : (x : Pairs) → x ≡ pairTable (pairsIn 256 (take (length s - getD edges count 0) (drop (getD edges count 0) s)))
-      → {ns qs ps ds : List ℕ} → length ns ≡ 256 → length qs ≡ 256 → length ps ≡ 256 → length ds ≡ 256
-      → Passing s count (x .count) (x .children) (x .parents) 0 ns qs ps ds
+      → {row : List ℕ} → length row ≡ 1024 → Passing s count (x .count) (x .children) (x .parents) 0 row
   unfolding contentsOf pairTable offersTo
-  passing-none x e hn hq hp hd =
+  passing-none x e places =
       let ps = pairsOf s in
       let at : getD edges count 0 ≡ getD (contentsOf s .edges) (check s .count) 0 = ap₂ (λ (xs : List ℕ) (n : ℕ). getD xs n 0) (w .edges) (w .count) in
       let read : x ≡ pairTable ps =
@@ -87,33 +85,37 @@ module _ {s edges : List ℕ} {count : ℕ} (w : Known s edges count) where
         children-long = rw read (row-long ps (λ p. p .child) _);
         parents-long = rw read (row-long ps (λ p. p .parent) _);
         paired = rw read (pairs-of-rows ps _ _);
-        rows = rows-none _ _ _ _ hn hq hp hd;
+        offers = row-none _ places;
       }
 
-  -- what is read between two edges is the component at that place
-  pub known-reading : (k : ℕ) → k < count → (c : Component) → c ≡ readAt s edges k → c ≡ reading s k .component
-  known-reading k h c e =
-      e ∙ (ap (λ (xs : List ℕ). readAt s xs k) (w .edges) ∙ read-at-reads s (w .taken) k (omega (arith, w .count)))
+  -- a turn of the pass, where the first k are passed
+  module _ {pairs : ℕ} {children parents : List ℕ} {k : ℕ} {row : List ℕ} (p : Passing s count pairs children parents k row) (h : k < count)
+      {t : Turn} {after : List ℕ} (turned : 4 * k + 4 ≤ length row → Turned (readAt s edges k) (pairsFrom (take pairs children) (take pairs parents)) k row after t) where
+    turn : Turned (readAt s edges k) (pairsFrom (take pairs children) (take pairs parents)) k row after t
+    turn = turned (omega (arith, p .few, p .offers .places))
 
-module _ {s : List ℕ} {count pairs : ℕ} {children parents : List ℕ} {k : ℕ} {ns qs ps ds : List ℕ} (p : Passing s count pairs children parents k ns qs ps ds)
-    {c : Component} (is : c ≡ reading s k .component) {o : Outcome} where
-  -- judged by the rows, the next component is judged in its tree
-  pub passing-judged : o ≡ outcomeOf (loadOn (pairsFrom (take pairs children) (take pairs parents)) (offersIn (take k ns) (take k qs) (take k ps) (take k ds)) c)
-      → o ≡ outcomeAt s k
-  unfolding outcomeAt loadAt
-  passing-judged e = e ∙ rw (p .paired, p .rows .held, is)
+    -- what is read between two edges is the component at that place
+    is : readAt s edges k ≡ reading s k .component
+    is = ap (λ (xs : List ℕ). readAt s xs k) (w .edges) ∙ read-at-reads s (w .taken) k (omega (arith, w .count))
 
-  -- and its offer is the next entry of the rows
-  pub passing-more : o ≡ outcomeAt s k → {x : Offer} → x ≡ offerOf c o → k < count
-      → Passing s count pairs children parents (k + 1) (set ns k (x .number)) (set qs k (x .capacity)) (set ps k (x .period)) (set ds k (x .deadline))
-  unfolding offersTo outcomeAt loadAt
-  passing-more e {x} f h =
-      let next : offersTo s (k + 1) ≡ offersTo s k ++ (x ∷ []) = rw add-one (ap (λ (y : Offer). offersTo s k ++ (y ∷ [])) (sym (f ∙ ap₂ offerOf is e))) in
-      record {
-        within = omega arith;
-        few = p .few;
-        children-long = p .children-long;
-        parents-long = p .parents-long;
-        paired = p .paired;
-        rows = rw next (rows-more ns qs ps ds k (offersTo s k) (p .rows) (omega (arith, p .few)) x);
-      }
+    pub turn-number : t .number ≡ reading s k .component .number
+    turn-number = turn .number ∙ ap (λ (c : Component). c .number) is
+
+    -- judged by the row, it is judged in its tree
+    pub turn-outcome : t .outcome ≡ outcomeAt s k
+    unfolding outcomeAt loadAt
+    turn-outcome = turn .outcome ∙ rw (p .paired, p .offers .held, is)
+
+    -- and its offer is the next of the row
+    pub turn-more : Passing s count pairs children parents (k + 1) after
+    unfolding offersTo outcomeAt loadAt
+    turn-more =
+        let next : offersTo s (k + 1) ≡ offersTo s k ++ (offerOf (readAt s edges k) (t .outcome) ∷ []) = rw (add-one, is, turn-outcome) in
+        record {
+          within = omega arith;
+          few = p .few;
+          children-long = p .children-long;
+          parents-long = p .parents-long;
+          paired = p .paired;
+          offers = rw next (row-more (p .offers) (omega (arith, p .few)) _ (turn .row));
+        }

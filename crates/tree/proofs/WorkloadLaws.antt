@@ -1,15 +1,16 @@
 -- A workload gathered pair by pair: the tasks so far are those of the children met so far, behind the own ones, and the children met so far with
 -- those still to come are all the children.
-use Prim.Native.Nat.{ℕ, _+_, _≤_, _<_}
+use Prim.Native.Nat.{ℕ, _+_, _-_, _≤_, _<_, min}
+use native.Mathlib.Nat.{min-eq-left, min-eq-right}
 use native.Mathlib.Numerals.{add-one}
 use native.Mathlib.Omega.{arith}
 use mathlib.Core.Bool.{Bool, true, false, cond, not, _&&_, and-assoc}
 use mathlib.Core.List.{List, [], _∷_, _++_, append-nil, append-assoc}
-use mathlib.Core.Path.{_≡_, refl, sym, ap, _∙_}
-use lib.Dec.{ltb, eqb}
-use lib.ListN.{length, getD, take, length-append}
-use lib.Seq.{append-snoc, length-take-le, take-all, take-append-le, take-suc}
-use borrow.Author.Tests.{ltb-true, ltb-false, le-ltb, eq-eqb, ne-eqb}
+use mathlib.Core.Path.{_≡_, refl, sym, ap, subst, _∙_}
+use lib.Dec.{leb, ltb, eqb}
+use lib.ListN.{length, take, set, replicate, length-append, length-set, replicate-append-replicate}
+use lib.Seq.{append-snoc, length-take-le, take-all, take-append-le, take-suc-set, take-take}
+use borrow.Author.Tests.{leb-true, leb-false, ltb-true, ltb-false, le-ltb, eq-eqb, ne-eqb}
 use Rattle.budget.specs.declared.component.Component.{Component}
 use Rattle.budget.specs.declared.task.Table.{Table}
 use Rattle.budget.specs.declared.task.Task.{Task}
@@ -37,23 +38,48 @@ append-within t ks k h =
     rw (le-ltb (t .count) most-tasks (omega (arith, count-is t (take most-tasks ks) h, length-take-le most-tasks ks long)))
     (h ∙ ap tableOf (sym (take-append-le most-tasks ks (k ∷ []) long))))
 
--- the tasks before a place with the one there are those before the next place
-pub own-more : (t : Table) (tasks : List Task) (i : ℕ) → length tasks ≡ most-tasks → i < most-tasks → t ≡ tableOf (take i tasks) → appended t (getD tasks i noTask) ≡ tableOf (take (i + 1) tasks)
-own-more t tasks i whole h e =
-    append-returned t (take i tasks) (getD tasks i noTask) e (omega (arith, length-take-le i tasks (omega arith)))
-    ∙ ap tableOf (sym (rw (add-one i) (take-suc tasks i noTask (omega arith))))
+-- a table whose places from the count up to i are cleared
+pub record Cleared (ks : List Task) (count i : ℕ) (now : List Task) : Type 0 where
+  pub long : length now ≡ most-tasks
+  pub behind : count ≤ i
+  pub within : i ≤ most-tasks
+  pub held : take i now ≡ take count ks ++ replicate (i - count) noTask
 
--- a table has no more tasks than places
-module _ (t : Table) (tasks : List Task) (i count : ℕ) (whole : length tasks ≡ most-tasks) (within : i ≤ most-tasks) (before : i ≤ count) (e : t ≡ tableOf (take i tasks)) where
-  own-by : take i tasks ≡ take count tasks → t ≡ tableOf (take most-tasks (take count tasks))
-  own-by f =
-      e ∙ ap tableOf (f ∙ sym (take-all most-tasks (take count tasks) (omega (arith, ap length f, length-take-le i tasks (omega arith)))))
+pub cleared-none : (ks : List Task) (count : ℕ) → length ks ≡ most-tasks → count ≤ most-tasks → Cleared ks count count ks
+cleared-none ks count whole h =
+    let none : count - count ≡ 0 = omega arith in
+    record { long = whole; behind = omega arith; within = h; held = rw none (sym (append-nil (take count ks))) }
 
-  pub own-count : count ≤ i → t ≡ tableOf (take most-tasks (take count tasks))
-  own-count h = let n : i ≡ count = omega arith in own-by (ap (λ (m : ℕ). take m tasks) n)
+pub cleared-more : (ks : List Task) (count i : ℕ) (now : List Task) → i < most-tasks → Cleared ks count i now → Cleared ks count (i + 1) (set now i noTask)
+cleared-more ks count i now h c =
+    let more : i + 1 - count ≡ i - count + 1 = omega (arith, c .behind) in
+    record {
+      long = length-set now i noTask ∙ c .long;
+      behind = omega (arith, c .behind);
+      within = omega arith;
+      held =
+          rw (more, add-one i, take-suc-set now i noTask (omega (arith, c .long)), c .held, append-assoc)
+          (ap (λ (l : List Task). take count ks ++ l) (replicate-append-replicate (i - count) 1 noTask));
+    }
 
-  pub own-full : most-tasks ≤ i → t ≡ tableOf (take most-tasks (take count tasks))
-  own-full h = own-by (take-all i tasks (omega arith) ∙ sym (take-all count tasks (omega arith)))
+-- the first tasks of a table, at most as many as it has places for
+first-held : (ks : List Task) (n : ℕ) → length ks ≡ most-tasks → take most-tasks (take n ks) ≡ take (min n most-tasks) ks
+first-held ks n whole =
+    either (leb n most-tasks)
+    (λ e. let few = leb-true n most-tasks e in
+    rw (min-eq-left few) (take-all most-tasks (take n ks) (omega (arith, length-take-le n ks (omega arith)))))
+    (λ e. let more : most-tasks ≤ n = omega (arith, leb-false n most-tasks e) in
+    rw (min-eq-right more) (take-take most-tasks n ks more))
+
+pub cleared-all : (ks : List Task) (n count i : ℕ) (now : List Task) → length ks ≡ most-tasks → count ≡ min n most-tasks → most-tasks ≤ i → Cleared ks count i now
+    → record { count = count; tasks = now } ≡ tableOf (take most-tasks (take n ks))
+unfolding tableOf
+cleared-all ks n count i now whole is end c =
+    let first : take most-tasks (take n ks) ≡ take count ks = first-held ks n whole ∙ ap (λ (m : ℕ). take m ks) (sym is) in
+    let last : i ≡ most-tasks = omega (arith, c .within) in
+    let all : now ≡ take count ks ++ replicate (most-tasks - count) noTask
+    = sym (take-all most-tasks now (omega (arith, c .long))) ∙ subst (λ (m : ℕ). take m now ≡ take count ks ++ replicate (m - count) noTask) last (c .held) in
+    rw (first, length-take-le count ks (omega (arith, c .behind, c .within)), all)
 
 -- ---- one child more
 

@@ -53,10 +53,13 @@ asTask o =
       lateness = record { 0 = 0 };
     }
 
--- offers as the code holds them, in rows
-unfoldable pub offersIn : List ℕ → List ℕ → List ℕ → List ℕ → List Offer
-offersIn [] qs ps ds = []
-offersIn (n ∷ ns) [] ps ds = []
-offersIn (n ∷ ns) (q ∷ qs) [] ds = []
-offersIn (n ∷ ns) (q ∷ qs) (p ∷ ps) [] = []
-offersIn (n ∷ ns) (q ∷ qs) (p ∷ ps) (d ∷ ds) = record { number = n; capacity = q; period = p; deadline = d } ∷ offersIn ns qs ps ds
+-- offers as the code holds them: four numbers each, one behind the other in a row
+abbrev pub noted : Offer → List ℕ
+noted o = o .number ∷ o .capacity ∷ o .period ∷ o .deadline ∷ []
+
+unfoldable pub offersIn : List ℕ → List Offer
+offersIn [] = []
+offersIn (n ∷ []) = []
+offersIn (n ∷ q ∷ []) = []
+offersIn (n ∷ q ∷ p ∷ []) = []
+offersIn (n ∷ q ∷ p ∷ d ∷ xs) = record { number = n; capacity = q; period = p; deadline = d } ∷ offersIn xs

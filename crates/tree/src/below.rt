@@ -1,31 +1,31 @@
 // The components that one place needs, itself and all below it, and their outcomes (RULES 7).
 use crate::answer::Load;
-use crate::answer::Outcome;
+use crate::offer::Offer;
+use crate::offer::WITHHELD;
+use crate::offer::note;
 use crate::offer::offer_of;
 use crate::outcome::judge_next;
 use crate::workload::load;
 use budget::component::Component;
+use record::layout::Record;
+use record::layout::record_of;
+use transfer::read::part_at;
 use transfer::read::read_at;
-ghost use Prim.Native.Nat.{_≤_};
+ghost use Prim.Native.Nat.{_*_, _≤_};
 ghost use mathlib.Core.Path.{_≡_};
 ghost use lib.ListN.{length, take};
-ghost use Rattle.tree.specs.Offer.{offersIn};
+ghost use Rattle.budget.specs.Component.{refused};
+ghost use Rattle.record.specs.Layout.{recordOf};
+ghost use Rattle.transfer.specs.ReadAt.{readAt};
+ghost use Rattle.transfer.specs.Reading.{componentFrom};
+ghost use Rattle.tree.specs.Offer.{offering, offerOf, offersIn, withheld};
 ghost use Rattle.tree.specs.Workload.{loadOn, pairsFrom};
 ghost use Rattle.tree.specs.inner.Below.{holds, offersBelow, outcomeWanted, wantedOf};
-ghost use Rattle.transfer.specs.ReadAt.{readAt};
 
 // The numbers of the components that are wanted, the first `count`.
 pub struct Wanted {
     pub count: usize,
     pub numbers: [u16; 257],
-}
-
-// The offers of the components before a place, in four rows.
-pub struct Offers {
-    pub numbers: [u16; 256],
-    pub capacities: [u32; 256],
-    pub periods: [u32; 256],
-    pub deadlines: [u32; 256],
 }
 
 fn holds(numbers: &[u16], number: u16) -> bool
@@ -60,31 +60,64 @@ pub(crate) fn wanted_below(children: &[u16], parents: &[u16], number: u16) -> Wa
     Wanted { count, numbers }
 }
 
-// The outcome of the component that comes next, if it is wanted; one that is not is as good as waiting.
-pub(crate) fn judge_wanted(
-    component: Component,
+// What is noted where no component is read: the component of a refused reading, which offers nothing.
+fn none_read() -> Offer
+    ensures { λ r. ⌜ r ≡ offering refused withheld ⌝ }
+{
+    Offer {
+        number: 0,
+        capacity: WITHHELD,
+        period: 1,
+        deadline: 1,
+    }
+}
+
+// What is noted of the component of a part before it is judged: its record alone says it, and no task is read.
+fn unjudged(part: &[u8]) -> Offer
+    ensures { λ r. ⌜ r ≡ offering (componentFrom (now (part .entry)) (recordOf (now (part .entry)))) withheld ⌝ }
+{
+    let record = record_of(part);
+    match record {
+        Record::ComponentRecord(head) => Offer {
+            number: head.number,
+            capacity: WITHHELD,
+            period: head.period.0,
+            deadline: head.deadline.0,
+        },
+        Record::TaskRecord(_, _) => none_read(),
+        Record::PairRecord(_) => none_read(),
+        Record::EndRecord(_) => none_read(),
+        Record::NoRecord(_) => none_read(),
+    }
+}
+
+// The same of the component at a place of a sheet whose edges are known.
+fn unjudged_at(sheet: &[u8], edges: &[usize; 257], place: usize) -> Offer
+    ensures { λ r. ⌜ r ≡ offering (readAt (now (sheet .entry)) (now (edges .entry)) place) withheld ⌝ }
+{
+    let part = part_at(sheet, edges, place);
+    unjudged(part)
+}
+
+// What the component at a place offers: one that is wanted is read whole and judged; any other is as good as waiting.
+fn offer_at(
+    sheet: &[u8],
+    edges: &[usize; 257],
+    place: usize,
     wanted: &[u16],
     children: &[u16],
     parents: &[u16],
-    numbers: &[u16],
-    capacities: &[u32],
-    periods: &[u32],
-    deadlines: &[u32],
-) -> Outcome
-    ensures { λ r. ⌜ r ≡ outcomeWanted (now (wanted .entry)) (pairsFrom (now (children .entry)) (now (parents .entry))) (offersIn (now (numbers .entry)) (now (capacities .entry)) (now (periods .entry)) (now (deadlines .entry))) component ⌝ }
+    offers: &[u32],
+) -> Offer
+    ensures { λ r. ⌜ (let c = readAt (now (sheet .entry)) (now (edges .entry)) place in r ≡ offerOf c (outcomeWanted (now (wanted .entry)) (pairsFrom (now (children .entry)) (now (parents .entry))) (offersIn (now (offers .entry))) c)) ⌝ }
 {
-    if holds(wanted, component.number) {
-        return judge_next(
-            component,
-            children,
-            parents,
-            numbers,
-            capacities,
-            periods,
-            deadlines,
-        );
+    let noted = unjudged_at(sheet, edges, place);
+    if holds(wanted, noted.number) {
+        let component = read_at(sheet, edges, place);
+        let outcome = judge_next(component, children, parents, offers);
+        return offer_of(component, outcome);
     }
-    Outcome::Waiting
+    noted
 }
 
 // The offers of the components before a place, as far as they are wanted; each is read between its edges and judged after its children.
@@ -95,40 +128,19 @@ fn offers_below(
     children: &[u16],
     parents: &[u16],
     place: usize,
-) -> Offers
+) -> [u32; 1024]
     requires { ⌜ place ≤ 256 ⌝ }
-    ensures { λ r. ⌜ offersIn (take place (r .numbers)) (take place (r .capacities)) (take place (r .periods)) (take place (r .deadlines)) ≡ offersBelow (now (wanted .entry)) (pairsFrom (now (children .entry)) (now (parents .entry))) (readAt (now (sheet .entry)) (now (edges .entry))) place ⌝ }
+    ensures { λ r. ⌜ offersIn (take (4 * place) r) ≡ offersBelow (now (wanted .entry)) (pairsFrom (now (children .entry)) (now (parents .entry))) (readAt (now (sheet .entry)) (now (edges .entry))) place ⌝ }
 {
-    let mut numbers = [0u16; 256];
-    let mut capacities = [0u32; 256];
-    let mut periods = [0u32; 256];
-    let mut deadlines = [0u32; 256];
+    let mut offers = [0u32; 1024];
     let mut k = 0;
     while k < place {
-        let component = read_at(sheet, edges, k);
-        let outcome = judge_wanted(
-            component,
-            wanted,
-            children,
-            parents,
-            &numbers[..k],
-            &capacities[..k],
-            &periods[..k],
-            &deadlines[..k],
-        );
-        let offer = offer_of(component, outcome);
-        numbers[k] = offer.number;
-        capacities[k] = offer.capacity;
-        periods[k] = offer.period;
-        deadlines[k] = offer.deadline;
+        let reach = 4 * k;
+        let offer = offer_at(sheet, edges, k, wanted, children, parents, &offers[..reach]);
+        note(&mut offers, k, offer);
         k += 1;
     }
-    Offers {
-        numbers,
-        capacities,
-        periods,
-        deadlines,
-    }
+    offers
 }
 
 // The workload of the component at a place, from what is below it alone.
@@ -147,17 +159,6 @@ pub(crate) fn load_below(
     let count = wanted.count;
     let row = wanted.numbers;
     let offers = offers_below(sheet, edges, &row[..count], children, parents, place);
-    let numbers = offers.numbers;
-    let capacities = offers.capacities;
-    let periods = offers.periods;
-    let deadlines = offers.deadlines;
-    load(
-        component,
-        children,
-        parents,
-        &numbers[..place],
-        &capacities[..place],
-        &periods[..place],
-        &deadlines[..place],
-    )
+    let reach = 4 * place;
+    load(component, children, parents, &offers[..reach])
 }

@@ -4,4 +4,5 @@ pub mod below;
 pub mod offer;
 pub mod outcome;
 pub mod place;
+pub mod turn;
 pub mod workload;

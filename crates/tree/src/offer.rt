@@ -4,7 +4,10 @@ use budget::component::Component;
 use judge::answer::Judged;
 use judge::answer::Verdict;
 ghost use mathlib.Core.Path.{_≡_};
-ghost use Rattle.tree.specs.Offer.{offering, offeredOn, offerOf};
+ghost use Prim.Native.Nat.{_+_, _*_, _≤_};
+ghost use lib.ListN.{length};
+ghost use lib.Seq.{sets};
+ghost use Rattle.tree.specs.Offer.{noted, offering, offeredOn, offerOf};
 
 // Stands in place of a capacity where the component is not accepted.
 pub const WITHHELD: u32 = 4_294_967_295;
@@ -42,11 +45,23 @@ fn offered_on(component: Component, judged: Judged) -> Offer
 }
 
 // Only a component that is accepted offers anything.
-pub fn offer_of(component: Component, outcome: Outcome) -> Offer
+pub(crate) fn offer_of(component: Component, outcome: Outcome) -> Offer
     ensures { λ r. ⌜ r ≡ offerOf component outcome ⌝ }
 {
     match outcome {
         Outcome::Waiting => offering(component, WITHHELD),
         Outcome::Judged(judged, _) => offered_on(component, judged),
     }
+}
+
+// Notes an offer in a row of offers at a place: four numbers each, one behind the other.
+pub(crate) fn note(offers: &mut [u32], place: usize, offer: Offer)
+    requires { ⌜ 4 * place + 4 ≤ length (now offers) ⌝ }
+    ensures { λ _. ⌜ now (offers .exit) ≡ sets (now (offers .entry)) (4 * place) (noted offer) ⌝ }
+{
+    let at = 4 * place;
+    offers[at] = offer.number as u32;
+    offers[at + 1] = offer.capacity;
+    offers[at + 2] = offer.period;
+    offers[at + 3] = offer.deadline;
 }

@@ -21,26 +21,15 @@ pub fn outcome_of(load: Load) -> Outcome
     Outcome::Judged(verdict(component), margin(component))
 }
 
-// Judges the component that comes next: the pairs as a row of children and one of parents, the offers of those before it in four rows.
-pub fn judge_next(
+// Judges the component that comes next: the pairs as a row of children and one of parents, the offers of those before it in one row.
+pub(crate) fn judge_next(
     component: Component,
     children: &[u16],
     parents: &[u16],
-    numbers: &[u16],
-    capacities: &[u32],
-    periods: &[u32],
-    deadlines: &[u32],
+    offers: &[u32],
 ) -> Outcome
-    ensures { λ r. ⌜ r ≡ outcomeOf (loadOn (pairsFrom (now (children .entry)) (now (parents .entry))) (offersIn (now (numbers .entry)) (now (capacities .entry)) (now (periods .entry)) (now (deadlines .entry))) component) ⌝ }
+    ensures { λ r. ⌜ r ≡ outcomeOf (loadOn (pairsFrom (now (children .entry)) (now (parents .entry))) (offersIn (now (offers .entry))) component) ⌝ }
 {
-    let load = load(
-        component,
-        children,
-        parents,
-        numbers,
-        capacities,
-        periods,
-        deadlines,
-    );
+    let load = load(component, children, parents, offers);
     outcome_of(load)
 }

@@ -9,63 +9,67 @@ use budget::quantity::Units;
 use budget::task::Table;
 use budget::task::Task;
 use budget::task::append;
-use budget::task::no_tasks;
 ghost use mathlib.Core.Bool.{cond};
 ghost use mathlib.Core.Path.{_≡_};
 ghost use lib.Dec.{eqb};
 ghost use lib.ListN.{take};
+ghost use Prim.Native.Nat.{min};
 ghost use Rattle.budget.specs.Limits.{most-tasks};
 ghost use Rattle.budget.specs.Task.{tasksOf, tableOf, appended};
 ghost use Rattle.tree.specs.Offer.{asTask, offerIn, offersIn};
 ghost use Rattle.tree.specs.Workload.{loadOn, pairsFrom, ready, waiting};
 
-// The offer of the component of a number, of offers held in four rows; the first of that number.
-fn find_offer(
-    numbers: &[u16],
-    capacities: &[u32],
-    periods: &[u32],
-    deadlines: &[u32],
-    number: u16,
-) -> Offer
-    ensures { λ r. ⌜ r ≡ offerIn (offersIn (now (numbers .entry)) (now (capacities .entry)) (now (periods .entry)) (now (deadlines .entry))) number ⌝ }
+// The offer of the component of a number, of offers noted in a row; the first of that number.
+fn find_offer(offers: &[u32], number: u16) -> Offer
+    ensures { λ r. ⌜ r ≡ offerIn (offersIn (now (offers .entry))) number ⌝ }
 {
-    let none = Offer {
+    let mut i = 0;
+    while 4 <= offers.len() - i {
+        if offers[i] == number as u32 {
+            return Offer {
+                number,
+                capacity: offers[i + 1],
+                period: offers[i + 2],
+                deadline: offers[i + 3],
+            };
+        }
+        i += 4;
+    }
+    Offer {
         number: 0,
         capacity: WITHHELD,
         period: 0,
         deadline: 0,
-    };
-    let mut i = 0;
-    while i < numbers.len() && i < capacities.len() && i < periods.len() && i < deadlines.len() {
-        if numbers[i] == number {
-            return Offer {
-                number,
-                capacity: capacities[i],
-                period: periods[i],
-                deadline: deadlines[i],
-            };
-        }
-        i += 1;
     }
-    none
 }
 
-// The tasks of a table with zeros behind them, as they are returned.
+// As many tasks as a table has places for.
+fn within_places(count: usize) -> usize
+    ensures { λ r. ⌜ r ≡ min count most-tasks ⌝ }
+{
+    if Table::MOST < count {
+        return Table::MOST;
+    }
+    count
+}
+
+// The tasks of a table with zeros behind them, as they are returned: the places from the count on are cleared where they stand.
 fn own_tasks(table: Table) -> Table
     ensures { λ r. ⌜ r ≡ tableOf (take most-tasks (tasksOf table)) ⌝ }
 {
-    let count = table.count;
-    let tasks = table.tasks;
-    let mut own = no_tasks();
-    let mut i = 0;
+    let count = within_places(table.count);
+    let mut tasks = table.tasks;
+    let mut i = count;
     while i < Table::MOST {
-        if count <= i {
-            return own;
-        }
-        own = append(own, tasks[i]);
+        tasks[i] = Task {
+            period: Time(0),
+            work: Units(0),
+            deadline: Time(0),
+            lateness: Time(0),
+        };
         i += 1;
     }
-    own
+    Table { count, tasks }
 }
 
 // The table with what a child adds behind the others: its interface as a task, whose jobs are ready when they are released, or nothing
@@ -116,23 +120,15 @@ fn ready(component: Component, table: Table) -> Load
     }
 }
 
-// The component with its whole workload: the pairs as a row of children and one of parents, the offers in four rows.
-pub fn load(
-    component: Component,
-    children: &[u16],
-    parents: &[u16],
-    numbers: &[u16],
-    capacities: &[u32],
-    periods: &[u32],
-    deadlines: &[u32],
-) -> Load
-    ensures { λ r. ⌜ r ≡ loadOn (pairsFrom (now (children .entry)) (now (parents .entry))) (offersIn (now (numbers .entry)) (now (capacities .entry)) (now (periods .entry)) (now (deadlines .entry))) component ⌝ }
+// The component with its whole workload: the pairs as a row of children and one of parents, the offers in one row.
+pub fn load(component: Component, children: &[u16], parents: &[u16], offers: &[u32]) -> Load
+    ensures { λ r. ⌜ r ≡ loadOn (pairsFrom (now (children .entry)) (now (parents .entry))) (offersIn (now (offers .entry))) component ⌝ }
 {
     let mut table = own_tasks(component.table);
     let mut i = 0;
     while i < children.len() && i < parents.len() {
         if parents[i] == component.number {
-            let offer = find_offer(numbers, capacities, periods, deadlines, children[i]);
+            let offer = find_offer(offers, children[i]);
             if offer.capacity == WITHHELD {
                 return waiting();
             }

@@ -1,4 +1,4 @@
--- After k turns the entries of the first k components are stored, and the rows have their offers.
+-- After k turns the entries of the first k components are stored, and the row has their offers.
 use Prim.Native.Nat.{_-_}
 use native.Mathlib.Nat.{le-of-lt}
 use native.Mathlib.Omega.{arith}
@@ -6,22 +6,17 @@ use borrow.Author.Needs.{needs}
 use mathlib.Core.Path.{_≡_, refl, ap, _∙_}
 use lib.ListN.{length}
 use lib.Seq.{sets, length-sets}
-use Rattle.budget.specs.declared.component.Component.{Component}
 use Rattle.jougsilver.specs.Host.{entriesTo}
-use Rattle.transfer.specs.Reading.{reading}
-use Rattle.tree.specs.Tree.{outcomeAt}
-use Rattle.tree.proofs.Pass.{Passing, known-edge, known-few, known-reading, known-small, known-within, lent-count, passing-none, passing-judged, passing-more}
+use Rattle.tree.proofs.Pass.{Passing, known-edge, known-few, known-small, known-within, lent-count, passing-none, turn-number, turn-outcome, turn-more}
 use Rattle.jougsilver.proofs.EntryLaws.{entry-place, entry-room, one-more-entry}
 use Rattle.jougsilver.proofs.all.put_all.Statement.{statement}
 use Rattle.jougsilver.proofs.all.put_all.Tie as tie
 
 abbrev Inv-loop : tie.InvT-loop
-Inv-loop sheet edges count reply₀ at from pairs children parents numbers₀ capacities₀ periods₀ deadlines₀ k₀ reply numbers capacities periods deadlines k =
-    Passing sheet count pairs children parents k numbers capacities periods deadlines × (reply ≡ sets reply₀ at (entriesTo sheet k))
+Inv-loop sheet edges count reply₀ at from pairs children parents offers₀ k₀ reply offers k = Passing sheet count pairs children parents k offers × (reply ≡ sets reply₀ at (entriesTo sheet k))
 
 abbrev μ-loop : tie.MeasureT-loop
-μ-loop sheet edges count reply₀ at from pairs children parents numbers₀ capacities₀ periods₀ deadlines₀ k₀ reply numbers capacities periods deadlines k =
-    count - k
+μ-loop sheet edges count reply₀ at from pairs children parents offers₀ k₀ reply offers k = count - k
 
 mul-from : tie.Need-mul-from Inv-loop μ-loop
 mul-from c = let few = known-few (c .before .before .pre .0) in omega arith
@@ -39,36 +34,28 @@ loop-holds : tie.Need-loop-holds Inv-loop μ-loop
 unfolding entriesTo
 loop-holds c =
     let x = c .before .before .read-pairs in
-    (passing-none (c .before .before .before .before .before .before .before .pre .0) (x .result) (x .ensures) refl refl refl refl, refl)
-
--- what is read is the component at place k, and it is judged in its tree
-is : (c : tie.After-read-at Inv-loop μ-loop) → c .read-at .result ≡ reading (c .before .before .before .before .before .before .before .before .before .before .args .sheet .now) (c .before .before .loop .k) .component
-is c = known-reading (c .before .before .before .before .before .before .before .before .before .before .pre .0) _ (c .before .loop-test .taken) _ (c .read-at .ensures)
-
-judged : (c : tie.After-judge-next Inv-loop μ-loop) → c .judge-next .result ≡ outcomeAt (c .before .before .before .before .before .before .before .before .before .before .before .before .before .before .before .before .before .args .sheet .now) (c .before .before .before .before .before .before .before .before .before .loop .k)
-judged c = passing-judged (c .before .before .before .before .before .before .before .before .before .loop .inv .0) (is (c .before .before .before .before .before .before .before)) (c .judge-next .ensures)
+    (passing-none (c .before .before .before .before .before .before .before .pre .0) (x .result) (x .ensures) refl, refl)
 
 add-put-entry : tie.Need-add-put-entry Inv-loop μ-loop
-add-put-entry c = let start = c .before .before .before .before .before .before .before .before .before .before .before .before .before .before .before .before .before .before .before .before in entry-place _ _ _ _ (start .pre .1) (c .before .before .before .before .before .before .before .before .before .before .before .loop-test .taken) (start .good .1 .1 .1 .0 .0)
+add-put-entry c = let start = c .before .before .before .before .before .before .before .before .before .before .before .before .before .before .before .before in entry-place _ _ _ _ (start .pre .1) (c .before .before .before .before .before .before .before .loop-test .taken) (start .good .1 .1 .1 .0 .0)
 
 -- there is room for this entry too, and its byte is a number of 4 bytes
 put-entry-requires : tie.Need-put-entry-requires Inv-loop μ-loop
 put-entry-requires c κs =
-    let start = c .before .before .before .before .before .before .before .before .before .before .before .before .before .before .before .before .before .before .before .before in
+    let start = c .before .before .before .before .before .before .before .before .before .before .before .before .before .before .before .before in
     let a = start .args in
-    let l = c .before .before .before .before .before .before .before .before .before .before .before .before .loop in
-    let next = c .before .before .before .before .before .before .before .before .before .before .before .loop-test .taken in
+    let l = c .before .before .before .before .before .before .before .before .loop in
+    let next = c .before .before .before .before .before .before .before .loop-test .taken in
     (entry-room (a .sheet .now) (a .reply .now) (a .at) (a .count) (l .k) (l .reply) (l .inv .1) (start .pre .1) next, known-small (start .pre .0) (l .k) (le-of-lt next))
 
 loop-again : tie.Need-loop-again Inv-loop μ-loop
 loop-again c =
-    let l = c .before .before .before .before .before .before .before .before .before .before .before .before .before .before .before .loop in
-    let next = c .before .before .before .before .before .before .before .before .before .before .before .before .before .before .loop-test .taken in
-    let read = is (c .before .before .before .before .before .before .before .before .before .before .before .before .before) in
-    let answer = judged (c .before .before .before .before .before .before) in
-    let known = c .before .before .before .before .before .before .before .before .before .before .before .before .before .before .before .before .before .before .before .before .before .before .before .pre .0 in (
-      passing-more (l .inv .0) read answer (c .before .before .before .before .before .offer-of .ensures) next,
-      one-more-entry _ _ _ (l .k) (l .inv .1) (ap (λ (x : Component). x .number) read) answer (known-edge known (l .k) (le-of-lt next)) (c .before .before .put-entry .ensures),
+    let known = c .before .before .before .before .before .before .before .before .before .before .before .before .before .before .before .before .before .before .before .pre .0 in
+    let l = c .before .before .before .before .before .before .before .before .before .before .before .loop in
+    let next = c .before .before .before .before .before .before .before .before .before .before .loop-test .taken in
+    let turned = c .before .before .before .before .before .before .turn-at .ensures .0 in (
+      turn-more known (l .inv .0) next turned,
+      one-more-entry _ _ _ (l .k) (l .inv .1) (turn-number known (l .inv .0) next turned) (turn-outcome known (l .inv .0) next turned) (known-edge known (l .k) (le-of-lt next)) (c .before .before .put-entry .ensures),
     )
 
 same-length : tie.Need-same-length Inv-loop μ-loop
@@ -93,29 +80,12 @@ put-all-spec =
     (λ c. omega arith)
     (λ c κs. search needs)
     loop-holds
+    (λ c. omega arith)
+    (λ c. lent-count _ _ (omega arith))
+    (λ c. omega arith)
+    (λ c. lent-count _ _ (omega arith))
+    (λ c. search needs)
     (λ c κs. search needs)
-    (λ c. omega arith)
-    (λ c. lent-count _ _ (omega arith))
-    (λ c. omega arith)
-    (λ c. lent-count _ _ (omega arith))
-    (λ c. omega arith)
-    (λ c. lent-count _ _ (omega arith))
-    (λ c. omega arith)
-    (λ c. lent-count _ _ (omega arith))
-    (λ c. omega arith)
-    (λ c. lent-count _ _ (omega arith))
-    (λ c. omega arith)
-    (λ c. lent-count _ _ (omega arith))
-    (λ c κs. search needs)
-    (λ c κs. search needs)
-    (λ c. omega arith)
-    (λ c. omega arith)
-    (λ c. omega arith)
-    (λ c. omega arith)
-    (λ c. omega arith)
-    (λ c. omega arith)
-    (λ c. omega arith)
-    (λ c. omega arith)
     (λ c. omega arith)
     (λ c. omega arith)
     (λ c. omega arith)

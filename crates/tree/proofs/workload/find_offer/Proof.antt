@@ -1,85 +1,51 @@
--- The loop's invariant: the offer that is looked for is the first of its number from the place on. The shortest row ends the offers.
-use Prim.Native.Nat.{ℕ, _+_, _-_}
-use mathlib.Core.List.{[], _∷_}
+-- The loop's invariant: the offer that is looked for is the first of its number from the place on. Fewer than four numbers are no offer.
+use Prim.Native.Nat.{ℕ, _+_, _-_, _≤_}
+use native.Mathlib.Omega.{arith}
+use mathlib.Core.List.{List, _∷_}
 use mathlib.Core.Path.{_≡_, refl, sym, ap, _∙_}
-use lib.ListN.{length, getD}
+use lib.ListN.{length, drop}
 use denote.Ref.{now}
 use borrow.Author.Needs.{needs}
-use borrow.Author.Tests.{ltb-true, ltb-false}
-use Rattle.tree.specs.declared.offer.Offer.{Offer}
-use Rattle.tree.specs.Offer.{noOffer, offerIn, offersIn}
-use Rattle.tree.proofs.OfferLaws.{offerWith, offersFrom, offers-at, found-here, found-later, found-none, numbers-end, capacities-end, periods-end, deadlines-end}
+use Rattle.tree.specs.Offer.{offerIn, offersIn}
+use Rattle.tree.proofs.OfferLaws.{offerAt, offers-at, offers-end, found-here, found-later, found-none}
 use Rattle.tree.proofs.workload.find_offer.Statement.{statement}
 use Rattle.tree.proofs.workload.find_offer.Tie as tie
 
 abbrev Inv-loop : tie.InvT-loop
-Inv-loop numbers capacities periods deadlines number none i₀ i =
-    offerIn (offersFrom numbers capacities periods deadlines i) number ≡ offerIn (offersIn numbers capacities periods deadlines) number
+Inv-loop offers number i₀ i = (i ≤ length offers) × (offerIn (offersIn (drop i offers)) number ≡ offerIn (offersIn offers) number)
 
 abbrev μ-loop : tie.MeasureT-loop
-μ-loop numbers capacities periods deadlines number none i₀ i = length numbers - i
+μ-loop offers number i₀ i = length offers - i
 
--- every row has an entry at the place
-module _ (c : tie.Then3 Inv-loop μ-loop) where
+-- there is an offer at the place
+module _ (c : tie.In-loop Inv-loop μ-loop) where
   abbrev head : tie.At-loop Inv-loop μ-loop
-  head = c .before .before .before .before
+  head = c .before
 
-  abbrev place : ℕ
-  place = head .loop .i
+  abbrev row : List ℕ
+  row = now (head .before .args .offers)
 
-  abbrev offer : Offer
-  offer =
-      let a = head .before .args in
-      offerWith (getD (now (a .numbers)) place 0) (getD (now (a .capacities)) place 0) (getD (now (a .periods)) place 0) (getD (now (a .deadlines)) place 0)
-
-  here : let a = head .before .args in
-      offersFrom (now (a .numbers)) (now (a .capacities)) (now (a .periods)) (now (a .deadlines)) place ≡ offer ∷ offersFrom (now (a .numbers)) (now (a .capacities)) (now (a .periods)) (now (a .deadlines)) (place + 1)
-  here =
-      offers-at _ _ _ _ place (c .before .before .before .loop-test .taken) (ltb-true _ _ (c .before .before .if1 .taken)) (ltb-true _ _ (c .before .if2 .taken)) (ltb-true _ _ (c .if3 .taken))
+  here : offersIn (drop (head .loop .i) row) ≡ offerAt row (head .loop .i) ∷ offersIn (drop (head .loop .i + 4) row)
+  here = offers-at row (head .loop .i) (omega arith)
 
 returns : tie.Need-returns Inv-loop μ-loop
 returns c =
     let f = c .before .before .before in
     let t = f .before .before in
-    let o = offer t in
-    ap (λ (n : ℕ). offerWith n (o .capacity) (o .period) (o .deadline)) (sym (f .if4 .taken))
-    ∙ sym (found-here _ _ o (head t .before .args .number) (here t) (f .if4 .taken))
-    ∙ head t .loop .inv
+    let o = offerAt (row t) (head t .loop .i) in
+    ap (λ (n : ℕ). record { number = n; capacity = o .capacity; period = o .period; deadline = o .deadline }) (sym (f .if1 .taken))
+    ∙ sym (found-here _ _ o (head t .before .args .number) (here t) (f .if1 .taken))
+    ∙ head t .loop .inv .1
 
 loop-again : tie.Need-loop-again Inv-loop μ-loop
 loop-again c =
     let t = c .before .before in
-    sym (found-later _ _ (offer t) (head t .before .args .number) (here t) (c .if4 .left)) ∙ head t .loop .inv
-
--- no offer is left where a row has ended
-ended : (h : tie.At-loop Inv-loop μ-loop)
-    → let a = h .before .args in offersFrom (now (a .numbers)) (now (a .capacities)) (now (a .periods)) (now (a .deadlines)) (h .loop .i) ≡ []
-    → noOffer ≡ offerIn (offersIn (now (a .numbers)) (now (a .capacities)) (now (a .periods)) (now (a .deadlines))) (a .number)
-ended h e = sym (found-none _ (h .before .args .number) e) ∙ h .loop .inv
+    (omega arith, sym (found-later _ _ (offerAt (row t) (head t .loop .i)) (head t .before .args .number) (here t) (c .if1 .left)) ∙ head t .loop .inv .1)
 
 returns-2 : tie.Need-returns-2 Inv-loop μ-loop
 returns-2 c =
-    let h = c .before .before .before .before in
-    let a = h .before .args in
-    ended h (deadlines-end (now (a .numbers)) (now (a .capacities)) (now (a .periods)) (now (a .deadlines)) (h .loop .i) (ltb-false _ _ (c .if3 .left)))
-
-returns-3 : tie.Need-returns-3 Inv-loop μ-loop
-returns-3 c =
-    let h = c .before .before .before in
-    let a = h .before .args in
-    ended h (periods-end (now (a .numbers)) (now (a .capacities)) (now (a .periods)) (now (a .deadlines)) (h .loop .i) (ltb-false _ _ (c .if2 .left)))
-
-returns-4 : tie.Need-returns-4 Inv-loop μ-loop
-returns-4 c =
-    let h = c .before .before in
-    let a = h .before .args in
-    ended h (capacities-end (now (a .numbers)) (now (a .capacities)) (now (a .periods)) (now (a .deadlines)) (h .loop .i) (ltb-false _ _ (c .if1 .left)))
-
-returns-5 : tie.Need-returns-5 Inv-loop μ-loop
-returns-5 c =
     let h = c .before in
-    let a = h .before .args in
-    ended h (numbers-end (now (a .numbers)) (now (a .capacities)) (now (a .periods)) (now (a .deadlines)) (h .loop .i) (c .loop-test .left))
+    sym (found-none _ (h .before .args .number) (offers-end (now (h .before .args .offers)) (h .loop .i) (omega arith))) ∙ h .loop .inv .1
 
 pub find-offer-spec : {M : Type 1} → statement M
 find-offer-spec =
@@ -87,7 +53,11 @@ find-offer-spec =
     (tie.spec
     Inv-loop
     μ-loop
-    (λ c. refl)
+    (λ c. (search needs, refl))
+    (λ c. search needs)
+    (λ c. search needs)
+    (λ c. search needs)
+    (λ c. search needs)
     (λ c. search needs)
     (λ c. search needs)
     (λ c. search needs)
@@ -100,7 +70,4 @@ find-offer-spec =
     (λ c. search needs)
     (λ c. search needs)
     loop-again
-    returns-2
-    returns-3
-    returns-4
-    returns-5)
+    returns-2)

@@ -17,21 +17,21 @@ use Rattle.tree.proofs.workload.load.Statement.{statement}
 use Rattle.tree.proofs.workload.load.Tie as tie
 
 abbrev Inv-loop : tie.InvT-loop
-Inv-loop component children parents numbers capacities periods deadlines table₀ i₀ table i =
-    Gathering (pairsFrom children parents) (pairsAfter children parents i) (offersIn numbers capacities periods deadlines) component table
+Inv-loop component children parents offers table₀ i₀ table i =
+    Gathering (pairsFrom children parents) (pairsAfter children parents i) (offersIn offers) component table
 
 abbrev μ-loop : tie.MeasureT-loop
-μ-loop component children parents numbers capacities periods deadlines table₀ i₀ table i = length children - i
+μ-loop component children parents offers table₀ i₀ table i = length children - i
 
 module _ (h : tie.At-loop Inv-loop μ-loop) where
   abbrev start : tie.Start Inv-loop μ-loop
-  start = h .before .before .before .before .before .before .before .before
+  start = h .before .before .before .before .before
 
   abbrev pairs : List Pair
   pairs = pairsFrom (now (start .args .children)) (now (start .args .parents))
 
   abbrev offers : List Offer
-  offers = let a = start .args in offersIn (now (a .numbers)) (now (a .capacities)) (now (a .periods)) (now (a .deadlines))
+  offers = let a = start .args in offersIn (now (a .offers))
 
   abbrev after : ℕ → List Pair
   after i = pairsAfter (now (start .args .children)) (now (start .args .parents)) i

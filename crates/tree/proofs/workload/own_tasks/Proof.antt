@@ -1,46 +1,36 @@
--- The loop's invariant: the table so far is the returned one of the tasks before the place.
-use Prim.Native.Nat.{_-_, _≤_}
-use mathlib.Core.Path.{_≡_, _∙_}
-use lib.ListN.{length, take}
+-- The loop's invariant: the places from the count on and before `i` are cleared, and before the count the table's tasks stand.
+use Prim.Native.Nat.{_-_}
+use mathlib.Core.Path.{_≡_}
+use native.Mathlib.Omega.{arith}
+use lib.ListN.{length}
 use borrow.Author.Needs.{needs}
-use Rattle.budget.specs.Task.{tableOf, tasksOf}
+use Rattle.budget.specs.Task.{tasksOf}
 use Rattle.budget.proofs.Places.{length-mapped}
-use Rattle.tree.proofs.WorkloadLaws.{own-more, own-count, own-full}
+use Rattle.tree.proofs.WorkloadLaws.{Cleared, cleared-none, cleared-more, cleared-all}
 use Rattle.tree.proofs.workload.own_tasks.Statement.{statement}
 use Rattle.tree.proofs.workload.own_tasks.Tie as tie
 
 abbrev Inv-loop : tie.InvT-loop
-Inv-loop count tasks own₀ i₀ own i = (i ≤ 64) × (i ≤ count) × (own ≡ tableOf (take i tasks))
+Inv-loop count tasks₀ i₀ tasks i = Cleared tasks₀ count i tasks
 
 abbrev μ-loop : tie.MeasureT-loop
-μ-loop count tasks own₀ i₀ own i = 64 - i
+μ-loop count tasks₀ i₀ tasks i = 64 - i
+
+whole : (c : tie.After-within-places Inv-loop μ-loop) → length (c .before .args .table .tasks) ≡ 64
+whole c = search (needs, length-mapped)
 
 loop-holds : tie.Need-loop-holds Inv-loop μ-loop
-loop-holds c = (search needs, search needs, c .no-tasks .ensures)
+loop-holds c = cleared-none _ _ (whole (c .before)) (omega (arith, c .before .within-places .ensures))
 
-whole : (c : tie.After-tasks Inv-loop μ-loop) → length (c .before .args .table .tasks) ≡ 64
-whole c = search (needs, length-mapped)
+loop-again : tie.Need-loop-again Inv-loop μ-loop
+loop-again c = cleared-more _ _ _ _ (c .loop-test .taken) (c .before .loop .inv)
 
 returns : tie.Need-returns Inv-loop μ-loop
 unfolding tasksOf
 returns c =
-    let h = c .before .before in
-    own-count (h .loop .own) _ (h .loop .i) _ (whole (h .before .before)) (h .loop .inv .0) (h .loop .inv .1) (h .loop .inv .2) (c .if1 .taken)
-
-loop-again : tie.Need-loop-again Inv-loop μ-loop
-loop-again c =
-    let t = c .before .before .before in
-    let h = t .before in (
-      search needs,
-      search needs,
-      c .append .ensures ∙ own-more (h .loop .own) _ (h .loop .i) (whole (h .before .before)) (t .loop-test .taken) (h .loop .inv .2),
-    )
-
-returns-2 : tie.Need-returns-2 Inv-loop μ-loop
-unfolding tasksOf
-returns-2 c =
     let h = c .before in
-    own-full (h .loop .own) _ (h .loop .i) _ (whole (h .before .before)) (h .loop .inv .0) (h .loop .inv .1) (h .loop .inv .2) (c .loop-test .left)
+    let w = h .before .before in
+    cleared-all _ _ _ (h .loop .i) _ (whole w) (w .within-places .ensures) (c .loop-test .left) (h .loop .inv)
 
 pub own-tasks-spec : {M : Type 1} → statement M
 own-tasks-spec =
@@ -50,11 +40,9 @@ own-tasks-spec =
     μ-loop
     (λ c κs. search needs)
     loop-holds
-    returns
     (λ c. search needs)
     (λ c. search needs)
-    (λ c κs. search needs)
     (λ c. search needs)
     (λ c. search needs)
     loop-again
-    returns-2)
+    returns)
