@@ -74,14 +74,15 @@ fn tasks_given(count: u64) -> usize
     count as usize
 }
 
-// A table; its places from the count on hold what is no task, with numbers as large as can be, so that nothing may count with them.
+// A table; its places from the count on hold what is no task, with a lateness above the deadline and both as large as can be, so that
+// nothing may count with them.
 pub fn read_table(line: &[u8], start: usize) -> GivenTable {
     let count = words::read_number(line, start);
     let given = tasks_given(count.value);
     let mut tasks = [Task {
         period: Time(9),
         work: Units(0),
-        deadline: Time(4294967295),
+        deadline: Time(4294967294),
         lateness: Time(4294967295),
     }; 64];
     let mut at = count.at;
