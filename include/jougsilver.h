@@ -26,10 +26,10 @@
  * one of 64 tasks with a common period of 1,048,576 and a deadline at every instant: 127 to 136 ms of processor time in five
  * runs on a virtual machine (Intel Xeon, x86-64), and 253 to 350 ms in eight runs of an earlier version on a slower one; stated
  * instead of asked, 89 to 118 ms in five. Tasks that are late took no longer. To judge a parent, jougsilver_judge judges all
- * that lives inside it first: the top of a chain of 256 components at the large end took 1.3 to 1.7 s in five runs, and
- * jougsilver_judge_all, which judges each component of a sheet just once, as long for that sheet. 63 components of that longest
- * kind, as many as a sheet holds, took it 8.8 s in one run. To check a full sheet of 256 components took 0.05 to 0.06 ms. Time
- * grows with the common periods and the number of tasks.
+ * that lives inside it first: the top of a chain of 256 components at the large end took 1.36 to 1.65 s in five runs, and
+ * jougsilver_judge_all, which judges each component of a sheet just once, 1.36 to 1.6 s for that sheet. 63 components of that
+ * longest kind, as many as a sheet holds, took it 8.8 s in one run. To check a full sheet of 256 components took 0.05 to
+ * 0.06 ms. Time grows with the common periods and the number of tasks.
  */
 #ifndef JOUGSILVER_H
 #define JOUGSILVER_H

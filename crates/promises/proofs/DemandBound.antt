@@ -62,26 +62,26 @@ module _ (ks : List Task) (valid : validTasks ks ≡ true) where
       }
 
   -- the jobs of the task behind one of them begin T later
-  behind : (i a t : ℕ) (j : Job) (js : List Job) → OfTask ks i a t j → validJob ks j ≡ true → beforeAll ks j js ≡ true → legalArrival ks js ≡ true
+  behind : (i a t : ℕ) (j : Job) (js : List Job) → OfTask ks i a t j → validJob ks j ≡ true → beforeAll ks j js ≡ true
       → workOf (ofTask ks i a t) js ≤ workOf (ofTask ks i (latest ks j + T (getD ks i noTask)) t) js
-  behind i a t j js o v h e =
+  behind i a t j js o v h =
       work-le (ofTask ks i a t) (ofTask ks i (latest ks j + T (getD ks i noTask)) t) js
       (λ q l p.
       let b = getD js q noJob in
       let x = both (eqb (b .task) i) _ p in
       let y = both (leb a (latest ks b)) _ (x .1) in
       let later : latest ks j + T (getD ks i noTask) ≤ latest ks b
-      = rw (← task-of ks j i (o .task)) (latest-apart ks j b v (valid-in ks js e q l) (o .task ∙ sym (eqb-true _ _ (x .0))) (apart-at ks j js h q l)) in
+      = rw (← task-of ks j i (o .task)) (latest-apart ks j b v (o .task ∙ sym (eqb-true _ _ (x .0))) (apart-at ks j js h q l)) in
       and-true (x .0) (and-true (le-leb _ _ later) (y .1)))
 
   counted-step : (i a t : ℕ) (j : Job) (js : List Job) (b : Bool) → ofTask ks i a t j ≡ b → validJob ks j ≡ true → beforeAll ks j js ≡ true
-      → legalArrival ks js ≡ true → ((s : ℕ) → Counted ks js i s t) → Counted ks (j ∷ js) i a t
+      → ((s : ℕ) → Counted ks js i s t) → Counted ks (j ∷ js) i a t
   unfolding workOf
-  counted-step i a t j js true e v h legal rest =
+  counted-step i a t j js true e v h rest =
       let o = of-task i a t j v e in
       let k = getD ks i noTask in
       let r = rest (latest ks j + T k) in
-      let later = behind i a t j js o v h legal in
+      let later = behind i a t j js o v h in
       let most : j .work ≤ C k = rw (← task-of ks j i (o .task)) (valid-job ks j v .most) in
       let work = r .work in
       record {
@@ -89,7 +89,7 @@ module _ (ks : List Task) (valid : validTasks ks ≡ true) where
         work = rw e (omega arith);
         fit = fit-suc k a (latest ks j) t (r .jobs) (o .from) (o .due) (r .fit);
       }
-  counted-step i a t j js false e v h legal rest =
+  counted-step i a t j js false e v h rest =
       let r = rest a in
       let work = r .work in
       record { jobs = r .jobs; work = rw e (omega arith); fit = r .fit }
@@ -100,7 +100,7 @@ module _ (ks : List Task) (valid : validTasks ks ≡ true) where
   counted (j ∷ js) e i a t =
       let x = both (validJob ks j) _ e in
       let y = both (beforeAll ks j js) _ (x .1) in
-      counted-step i a t j js _ refl (x .0) (y .0) (y .1) (λ s. counted js (y .1) i s t)
+      counted-step i a t j js _ refl (x .0) (y .0) (λ s. counted js (y .1) i s t)
 
 fit-jobs : (k : Task) → ValidTask k → (a u n : ℕ) → Fit k a (a + u) n → n ≤ jobsBy k u
 fit-jobs k v a u zero f = omega arith

@@ -55,7 +55,7 @@ only-first-early ks v js e p q h l same =
     let b = getD js q noJob in
     let vb = valid-in ks js e q l in
     let k = valid ks v b vb in
-    let later = latest-apart ks (getD js p noJob) b (valid-in ks js e p (omega arith)) vb same (apart-pair ks js e p q h l) in
+    let later = latest-apart ks (getD js p noJob) b (valid-in ks js e p (omega arith)) same (apart-pair ks js e p q h l) in
     let tasks : taskOf ks (getD js p noJob) ≡ taskOf ks b = task-of ks (getD js p noJob) (b .task) same in
     sym (moved (pos 1) (b .release) (J (taskOf ks b)))
     ∙ rw (at-latest ks v b vb) (le-leb (1 + J (taskOf ks b)) (latest ks b) (omega (arith, rw tasks at later, k .works, k .fits, k .late, k .within)))

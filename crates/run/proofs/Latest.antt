@@ -39,10 +39,10 @@ due-of-latest ks v j e =
     let parts : D (taskOf ks j) ≡ J (taskOf ks j) + span (taskOf ks j) = omega (arith, k .late) in
     ap (λ (d : ℕ). fromZero (j .release +ℤ pos d)) parts ∙ ap fromZero (on-from-latest ks j e (span (taskOf ks j)))
 
-pub latest-apart : (ks : List Task) (a b : Job) → validJob ks a ≡ true → validJob ks b ≡ true → a .task ≡ b .task → apart ks a b ≡ true
+pub latest-apart : (ks : List Task) (a b : Job) → validJob ks a ≡ true → a .task ≡ b .task → apart ks a b ≡ true
     → latest ks a + T (taskOf ks a) ≤ latest ks b
 unfolding latest taskOf
-latest-apart ks a b va vb same e =
+latest-apart ks a b va same e =
     let k = taskOf ks a in
     let kept : leZ (a .release +ℤ pos (T k) +ℤ pos (J k)) (b .release +ℤ pos (J k)) ≡ true
     = moved (a .release +ℤ pos (T k)) (b .release) (J k) ∙ apart-of ks a b e same in

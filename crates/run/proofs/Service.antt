@@ -40,7 +40,7 @@ module _ (ks : List Task) (js : List Job) (valid : validTasks ks ≡ true) (lega
       let spans = ap (λ (n : ℕ). span (getD ks n noTask)) same in
       omega (
         arith,
-        latest-apart ks _ _ a b same (apart-pair ks js legal p q h l),
+        latest-apart ks _ _ a same (apart-pair ks js legal p q h l),
         due-of-latest ks valid _ a,
         due-of-latest ks valid _ b,
         k .works,

@@ -27,7 +27,7 @@ use Rattle.tree.specs.Offer.{offerOf}
 use Rattle.tree.specs.Tree.{loadAt, offersTo, outcomeAt}
 use Rattle.tree.specs.Workload.{pairsFrom}
 use Rattle.tree.specs.inner.Known.{Known}
-use Rattle.tree.specs.inner.Turned.{Turned}
+use Rattle.tree.specs.Turned.{Turned}
 use Rattle.tree.proofs.OfferLaws.{Row, row-none, row-more, pairs-of-rows}
 
 pub checked-is : (s : List ℕ) (x : Contents) → x ≡ contentsOf s → x .checked ≡ check s

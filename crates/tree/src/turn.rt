@@ -9,7 +9,7 @@ ghost use mathlib.Core.Path.{_≡_};
 ghost use lib.ListN.{length};
 ghost use Rattle.transfer.specs.ReadAt.{readAt};
 ghost use Rattle.tree.specs.Workload.{pairsFrom};
-ghost use Rattle.tree.specs.inner.Turned.{Turned};
+ghost use Rattle.tree.specs.Turned.{Turned};
 
 // The number of the component that was passed, and its outcome.
 pub struct Turn {
