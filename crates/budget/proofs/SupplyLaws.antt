@@ -1,7 +1,7 @@
 -- Laws of supply. The quotient that its formula picks makes it the least of n·Θ + (t − (Π + Δ − 2Θ) − n·Π) over all n, and every other law
 -- compares such rows for well chosen n; the formula is not opened again.
 use Prim.Native.Nat.{ℕ, zero, suc, _+_, _-_, _*_, _/_, _≤_, _<_}
-use mathlib.Core.Path.{_≡_, refl, sym, ap}
+use mathlib.Core.Path.{_≡_, refl, sym, ap, _∙_}
 use mathlib.Core.Bool.{Bool, true, false, cond}
 use borrow.Author.Tests.{ltb-true}
 use native.Mathlib.Nat.{div-mul-le-self, lt-div-mul-add, mul-le-mul-left, mul-le-mul-right, le-dest, lt-of-not-le, le-trans, le-antisymm}
@@ -48,6 +48,10 @@ module _ (p q d g : ℕ) (fits : q ≤ p) (gap : g + q ≡ p + d) where
           let k = le-dest (lt-of-not-le h) in
           split (k .0) (omega (arith, k .1)) (decLe (suc (k .0) * p) a)
 
+-- a gap of two parts may be taken off part by part
+parted : (t d e g n : ℕ) → g ≡ e + d → t - g - n ≡ t - d - n - e
+parted t d e g n h = omega (arith, h)
+
 no-case : (b : Bool) (x : ℕ) → (b ≡ true → x ≡ 0) → cond b 0 x ≡ x
 no-case true x h = sym (h refl)
 no-case false x h = refl
@@ -60,7 +64,7 @@ module _ (i : Interface) (v : ValidInterface i) where
   fitting = le-trans (v .fits) (v .within)
 
   -- the two bounds of the formula's quotient
-  whole-fits : (t : ℕ) → wholePeriods i t * Π i ≤ t - (Δ i - Θ i)
+  pub whole-fits : (t : ℕ) → wholePeriods i t * Π i ≤ t - (Δ i - Θ i)
   unfolding wholePeriods
   whole-fits t = div-mul-le-self (t - (Δ i - Θ i)) (Π i)
 
@@ -75,6 +79,10 @@ module _ (i : Interface) (v : ValidInterface i) where
   supply-row : (t : ℕ) → supply i t ≡ wholePeriods i t * Θ i + (t - (Π i + Δ i - 2 * Θ i) - wholePeriods i t * Π i)
   unfolding supply
   supply-row t = no-case _ _ (λ e. row-early t (ltb-true _ _ e))
+
+  -- the row by the rest, the slots behind the wait and the whole periods: the longest gap is the pause and the wait
+  pub supply-by-rest : (t : ℕ) → supply i t ≡ wholePeriods i t * Θ i + (t - (Δ i - Θ i) - wholePeriods i t * Π i - (Π i - Θ i))
+  supply-by-rest t = supply-row t ∙ ap (λ (n : ℕ). wholePeriods i t * Θ i + n) (parted t _ _ _ _ (omega (arith, gap-is, fitting)))
 
   -- supply is the least row: at most every row, and equal to one
   pub supply-at-most : (t n : ℕ) → supply i t ≤ n * Θ i + (t - (Π i + Δ i - 2 * Θ i) - n * Π i)

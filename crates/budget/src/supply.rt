@@ -14,7 +14,8 @@ ghost use Rattle.budget.specs.Interface.{validInterface};
 ghost use Rattle.budget.specs.Limits.{limit};
 ghost use Rattle.budget.specs.Supply as Supply;
 
-// The fewest units in `at` slots of an interface in range. Supply is counted from the longest gap, Π + Δ − 2Θ slots.
+// The fewest units in `at` slots of an interface in range. Behind the wait the worst case goes period by period: a pause of Π − Θ slots, then
+// the capacity, a unit a slot. Whole periods and the rest, the slots of the period begun, come from one division.
 fn units_by(interface: Interface, at: u32) -> u32
     requires { ⌜ validInterface interface ≡ true ⌝ }
     requires { ⌜ at ≤ limit ⌝ }
@@ -27,12 +28,15 @@ fn units_by(interface: Interface, at: u32) -> u32
     if at < wait {
         return 0;
     }
-    let whole = (at - wait) / period;
-    let passed = period + deadline - 2 * capacity + whole * period;
-    if passed < at {
-        return whole * capacity + (at - passed);
+    let behind = at - wait;
+    let whole = behind / period;
+    let rest = behind - whole * period;
+    let pause = period - capacity;
+    let units = whole * capacity;
+    if rest < pause {
+        return units;
     }
-    whole * capacity
+    units + (rest - pause)
 }
 
 // Supply of an interface at t.
