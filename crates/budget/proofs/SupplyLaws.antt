@@ -60,7 +60,8 @@ module _ (i : Interface) (v : ValidInterface i) where
   gap-is : Π i + Δ i - 2 * Θ i + Θ i ≡ Π i + (Δ i - Θ i)
   gap-is = omega (arith, v .fits, v .within)
 
-  fitting : Θ i ≤ Π i
+  -- a capacity fits its period, since it fits the deadline
+  pub fitting : Θ i ≤ Π i
   fitting = le-trans (v .fits) (v .within)
 
   -- the two bounds of the formula's quotient

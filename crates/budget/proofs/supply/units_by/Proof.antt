@@ -1,12 +1,12 @@
 -- Supply in range is computed without overflow and as defined: the whole periods take no more slots than lie behind the wait, so the rest is what they leave, and every product is within the limit.
 use Prim.Native.Nat.{ℕ, _+_, _-_, _*_, _≤_, _<_}
 use mathlib.Core.Path.{_≡_, sym}
-use native.Mathlib.Nat.{mul-le-mul-left, le-trans, le-of-lt, sub-eq-zero-of-le, add-zero}
+use native.Mathlib.Nat.{mul-le-mul-left, le-of-lt, sub-eq-zero-of-le, add-zero}
 use native.Mathlib.Omega.{arith}
 use Rattle.budget.specs.Interface.{Π, Θ, Δ}
 use Rattle.budget.specs.Supply.{supply, wholePeriods}
 use Rattle.budget.specs.declared.interface.Interface.{Interface}
-use Rattle.budget.proofs.SupplyLaws.{whole-fits, supply-by-rest}
+use Rattle.budget.proofs.SupplyLaws.{fitting, whole-fits, supply-by-rest}
 use Rattle.budget.proofs.Tests.{tests}
 use Rattle.budget.proofs.Valid.{ValidInterface, valid-interface}
 use Rattle.budget.proofs.supply.units_by.Statement.{statement}
@@ -24,7 +24,7 @@ module _ (s : tie.Start) where
 
   -- the whole periods take no more slots than lie behind the wait, and their capacities no more than they
   bounds : (whole * Π i ≤ s .args .at - (Δ i - Θ i)) × (whole * Θ i ≤ whole * Π i)
-  bounds = (whole-fits i in-range (s .args .at), mul-le-mul-left whole (le-trans (in-range .fits) (in-range .within)))
+  bounds = (whole-fits i in-range (s .args .at), mul-le-mul-left whole (fitting i in-range))
 
   abbrev rest : ℕ
   rest = s .args .at - (Δ i - Θ i) - whole * Π i
