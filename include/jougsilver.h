@@ -44,11 +44,12 @@ extern "C" {
 /* Below 1.0.0 a new minor version may bring new refusal numbers and new codes of a reply; take those that you don't know as
    neither accepted nor short. A patch changes no answer. 0.2.0 brought components inside components: jougsilver_judge_all,
    code 3 and refusal 16. 0.3.0 brought jobs that become ready late: a sheet's record of kind 5, a task with its lateness J,
-   which was refused with 2 before. */
+   which was refused with 2 before. 0.4.0 brought components that store their common period, and refusal 17 for one that is
+   handed in with a wrong one; the calls here take sheets alone, and answer every sheet as before. */
 #define JOUGSILVER_VERSION_MAJOR 0
-#define JOUGSILVER_VERSION_MINOR 3
+#define JOUGSILVER_VERSION_MINOR 4
 #define JOUGSILVER_VERSION_PATCH 0
-#define JOUGSILVER_VERSION "0.3.0"
+#define JOUGSILVER_VERSION "0.4.0"
 
 /* Bytes of stack that are enough for any call, as measured. */
 #define JOUGSILVER_STACK 65536
@@ -58,8 +59,10 @@ extern "C" {
 #define JOUGSILVER_MOST_COMPONENTS 256
 
 /*
- * Refusal numbers. 0 is no refusal. The rules number 16 of them for all operations of the judge; 12 (a job list) and 13 (a
- * supply trace) are of operations that take jobs and traces, and no call here is given either.
+ * Refusal numbers. 0 is no refusal. The rules number 17 of them for all operations of the judge. Three of those no call here
+ * answers: 12 (a job list) and 13 (a supply trace) are of operations that take jobs and traces, and 17 (a stored common period
+ * that is not the component's own) is of operations that take a component. No sheet holds a stored common period: the calls work
+ * it out as they read.
  */
 enum {
     JOUGSILVER_TAKEN = 0,

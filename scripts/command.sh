@@ -118,7 +118,8 @@ take_sheet() {
     fi
 }
 
-# A refusal in words, for a person; docs/RULES.md, 12.
+# A refusal of a sheet in words, for a person; docs/RULES.md, 12. No sheet is refused with the others: 10 to 13, 15, and 17 (a stored
+# common period that is not the component's own: no sheet holds one).
 meaning() { # NUMBER
     case $1 in
     1) echo "the sheet ends inside a record, or has no end record" ;;

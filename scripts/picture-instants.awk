@@ -9,7 +9,7 @@ BEGIN {
     many = 200       # and a wider one at most this many corners
     tall = 360       # pixels of the first window's height
 }
-$1 == "component" { asked = $3 == "asked"; first = asked ? 4 : 5; period = $first; deadline = $(first + 1); read_table(first + 2) }
+$1 == "component" { asked = $3 == "asked"; first = asked ? 4 : 5; period = $first; deadline = $(first + 1); read_table(first + 3) }
 $1 == "capacity" { capacity = $2 }
 $1 == "short" { short = $2 }
 $1 == "margin" { margin = $2 < 0 ? -$2 : $2; instant = $3 }

@@ -6,9 +6,9 @@
 BEGIN {
     many = split(component, word, " ")
     first = word[2] == "asked" ? 3 : 4
-    for (i = first + 2; i <= many; i++) table = table " " word[i]
-    tasks = word[first + 2]
-    for (i = first + 6; i <= many; i += 4) if (word[i] > 0) { late++; if (word[i] > latest) latest = word[i] + 0 }
+    for (i = first + 3; i <= many; i++) table = table " " word[i]
+    tasks = word[first + 3]
+    for (i = first + 7; i <= many; i += 4) if (word[i] > 0) { late++; if (word[i] > latest) latest = word[i] + 0 }
     period = word[first]
     deadline = word[first + 1]
     interface = period " " capacity " " deadline

@@ -5,7 +5,8 @@ plain_svg() { # FILE
     need xmllint libxml2-utils && xmllint --noout "$1" && ! grep -E '<script|<style|<image|<!|href|url\([^#]' "$1"
 }
 
-# A component as a call has it, with its workload as its tasks: from the capacities of second's listing, in $work/listed, and the sheet's text.
+# A component as a call has it, with its workload as its tasks: made of the capacities of second's listing, in $work/listed, and the sheet's
+# text.
 component_of() { # SHEET NUMBER
     { cat "$work/listed" && "$second" text <"$1"; } | awk -v number="$2" '
         $2 == "accepted" { capacity[$1] = $3 }
@@ -14,7 +15,7 @@ component_of() { # SHEET NUMBER
         mine && $1 == "task" { add($2 " " $3 " " $4 " " $5 + 0) }
         $1 == "pair" && $3 == number && capacity[$2] > 0 { split(of[$2], span, " "); add(span[1] " " capacity[$2] " " span[2] " 0") }
         function add(task) { tasks++; table = table " " task }
-        END { print begin " " tasks + 0 table }'
+        END { print "make " begin " " tasks + 0 table }' | "$second" answer | sed -n 's/^ok \(.*\) zero$/\1/p'
 }
 # How many tasks of a component are its own.
 own_of() { # SHEET NUMBER

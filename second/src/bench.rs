@@ -1,6 +1,7 @@
 //! The rows of the benchmark: each is a few calls that both programs answer while bench/run holds the clock.
 
-use std::fmt::Write;
+use crate::calls::component_text;
+use crate::numbers::{Capacity, Component, Table, Task};
 
 /// A row: its name, the component of its calls, and how often each call stands in the file.
 pub struct Row {
@@ -49,12 +50,9 @@ pub const KINDS: [&str; 3] = ["verdict", "margin", "capacity"];
 
 /// The calls of a row at one kind: verdict and margin at the stated capacity, the smallest capacity where it is asked.
 pub fn calls(row: &Row, kind: &str) -> String {
-    let capacity = if kind == "capacity" { "asked".to_string() } else { format!("stated {}", row.capacity) };
-    let mut call = format!("{kind} 1 {capacity} {} {} {}", row.period, row.deadline, row.tasks.len());
-    for (period, work, deadline) in &row.tasks {
-        write!(call, " {period} {work} {deadline} 0").expect("a string takes every write");
-    }
-    call.push('\n');
+    let capacity = if kind == "capacity" { Capacity::Asked } else { Capacity::Stated(row.capacity) };
+    let tasks = row.tasks.iter().map(|&(period, work, deadline)| Task::new(period, work, deadline)).collect();
+    let call = format!("{kind} {}\n", component_text(&Component::new(1, capacity, row.period, row.deadline, Table::new(tasks))));
     // the plain search for a capacity goes through the instants once for each capacity that it tries
     call.repeat(if kind == "capacity" { (row.times / 10).max(1) } else { row.times })
 }

@@ -1,7 +1,7 @@
 //! The calls of docs/CALLS.md and their answers, one line each.
 
 use crate::judge::{self, Verdict};
-use crate::numbers::{add_task, common_divisor, remove_task, Capacity, Component, Interface, Refusal, Table, Task, TASKS};
+use crate::numbers::{add_task, common_divisor, make, remove_task, Capacity, Component, Interface, Refusal, Stored, Table, Task, TASKS};
 use crate::run::{self, Jobs};
 use crate::sheet::{Fault, Pair};
 use crate::tree::{Judged, Tree};
@@ -13,6 +13,10 @@ pub const BUFFER_BYTE: u8 = 0xa5;
 pub const LEFT_NUMBER: u32 = 77;
 /// The largest buffer that a call lends.
 pub const BUFFER: u64 = 4_096;
+/// The most edits of one call.
+pub const EDITS: u64 = 200;
+/// The buffer that an edited component is written into.
+const EDITED: usize = 2_048;
 
 /// The words of a line, taken one by one.
 struct Words<'a> {
@@ -68,18 +72,46 @@ impl<'a> Words<'a> {
         Ok(Interface::new(self.long()?, self.long()?, self.long()?))
     }
 
+    /// A component's number.
+    fn own(&mut self) -> Parsed<u16> {
+        Ok(self.number(u16::MAX as u64)? as u16)
+    }
+
+    fn capacity(&mut self) -> Parsed<Capacity> {
+        match self.word()? {
+            "stated" => Ok(Capacity::Stated(self.long()?)),
+            "asked" => Ok(Capacity::Asked),
+            other => Err(format!("`{other}` is neither `stated` nor `asked`")),
+        }
+    }
+
+    fn stored(&mut self) -> Parsed<Stored> {
+        if self.rest.clone().next() == Some("above") {
+            return self.word().map(|_| Stored::Above);
+        }
+        self.long().map(Stored::Number)
+    }
+
     fn component(&mut self) -> Parsed<Component> {
-        let number = self.number(u16::MAX as u64)? as u16;
-        let capacity = match self.word()? {
-            "stated" => Capacity::Stated(self.long()?),
-            "asked" => Capacity::Asked,
-            other => return Err(format!("`{other}` is neither `stated` nor `asked`")),
-        };
-        Ok(Component { number, period: self.long()?, capacity, deadline: self.long()?, table: self.table()? })
+        let (number, capacity) = (self.own()?, self.capacity()?);
+        Ok(Component { number, period: self.long()?, capacity, deadline: self.long()?, stored: self.stored()?, table: self.table()? })
+    }
+
+    fn edit(&mut self) -> Parsed<Edit> {
+        match self.word()? {
+            "add" => Ok(Edit::Add(self.task()?)),
+            "remove" => Ok(Edit::Remove(self.place()?)),
+            other => Err(format!("`{other}` is neither `add` nor `remove`")),
+        }
+    }
+
+    fn edits(&mut self) -> Parsed<Vec<Edit>> {
+        let count = self.number(EDITS)?;
+        (0..count).map(|_| self.edit()).collect()
     }
 
     fn pair(&mut self) -> Parsed<Pair> {
-        Ok(Pair { child: self.number(u16::MAX as u64)? as u16, parent: self.number(u16::MAX as u64)? as u16 })
+        Ok(Pair { child: self.own()?, parent: self.own()? })
     }
 
     fn list<T>(&mut self, one: impl Fn(&mut Self) -> Parsed<T>) -> Parsed<Vec<T>> {
@@ -146,12 +178,43 @@ pub fn walk_text(table: &Table, jobs: &Jobs, trace: &[u8]) -> String {
     format!("walk {} {} {} {}", table_text(table), jobs_text(jobs), row_text(trace), jobs.tasks.len())
 }
 
-pub fn component_text(component: &Component) -> String {
-    let capacity = match component.capacity {
+fn capacity_text(capacity: Capacity) -> String {
+    match capacity {
         Capacity::Stated(units) => format!("stated {units}"),
         Capacity::Asked => "asked".to_string(),
-    };
-    format!("{} {capacity} {} {} {}", component.number, component.period, component.deadline, table_text(&component.table))
+    }
+}
+
+fn stored_text(stored: Stored) -> String {
+    match stored {
+        Stored::Number(common) => common.to_string(),
+        Stored::Above => "above".to_string(),
+    }
+}
+
+pub fn component_text(component: &Component) -> String {
+    let Component { number, period, capacity, deadline, stored, table } = component;
+    format!("{number} {} {period} {deadline} {} {}", capacity_text(*capacity), stored_text(*stored), table_text(table))
+}
+
+/// A component without its stored common period, as `make` takes it.
+pub fn plain_text(component: &Component) -> String {
+    let Component { number, period, capacity, deadline, stored: _, table } = component;
+    format!("{number} {} {period} {deadline} {}", capacity_text(*capacity), table_text(table))
+}
+
+pub fn edit_text(edit: &Edit) -> String {
+    match edit {
+        Edit::Add(task) => format!("add {}", task_text(task)),
+        Edit::Remove(place) => format!("remove {place}"),
+    }
+}
+
+/// One edit of a component.
+#[derive(Clone, Copy, Debug)]
+pub enum Edit {
+    Add(Task),
+    Remove(u64),
 }
 
 /// A call, taken apart.
@@ -168,6 +231,8 @@ pub enum Call {
     Supply(Interface, u32),
     AddTask(Component, Task),
     RemoveTask(Component, u64),
+    Make(u16, Capacity, u32, u32, Table),
+    Edit(Vec<u8>, u64, Vec<Edit>),
     Legal(Interface, u32, Vec<u8>),
     Walk(Table, Jobs, Vec<u8>, u64),
     Verdict(Component),
@@ -203,6 +268,8 @@ pub fn parse(line: &str) -> Parsed<Call> {
         "supply" => Call::Supply(w.interface()?, w.long()?),
         "add_task" => Call::AddTask(w.component()?, w.task()?),
         "remove_task" => Call::RemoveTask(w.component()?, w.place()?),
+        "make" => Call::Make(w.own()?, w.capacity()?, w.long()?, w.long()?, w.table()?),
+        "edit" => Call::Edit(w.row()?, w.place()?, w.edits()?),
         "legal" => Call::Legal(w.interface()?, w.long()?, w.row()?),
         "walk" => {
             let (table, jobs) = (w.table()?, w.jobs()?);
@@ -275,6 +342,10 @@ fn margin_text(margin: judge::Margin) -> String {
     margin.map_or("none".to_string(), |(least, instant)| format!("{least} {instant}"))
 }
 
+fn smallest_text(units: Option<u32>) -> String {
+    units.map_or("none".to_string(), |units| units.to_string())
+}
+
 fn walked_text(walked: run::Walked) -> String {
     let miss = walked.miss.map_or("none".to_string(), |(instant, task)| format!("miss {instant} {task}"));
     let left: String = walked.left.iter().map(|work| format!(" {work}")).collect();
@@ -289,6 +360,37 @@ fn walk(table: &Table, jobs: &Jobs, row: &[u8], length: u64) -> String {
 fn part(row: &[u8], place: u64) -> String {
     let part = sheet::at_place(row, place).map(|read| row[read.start..read.end].to_vec());
     faulted(part, vec![], |bytes| row_text(&bytes))
+}
+
+/// A component after one edit after the other, or what the first refused one is refused with.
+pub fn edited(component: Component, edits: &[Edit]) -> Result<Component, Refusal> {
+    edits.iter().try_fold(component, |component, edit| match edit {
+        Edit::Add(task) => add_task(&component, *task),
+        Edit::Remove(place) => remove_task(&component, *place),
+    })
+}
+
+/// A component of a sheet, edited, and then all that can be asked about it.
+fn edit(row: &[u8], place: u64, edits: &[Edit]) -> String {
+    let read = match sheet::at_place(row, place) {
+        Ok(read) => read.component,
+        Err((refusal, place)) => return format!("refused {refusal} {place} {}", whole(Component::refused())),
+    };
+    match edited(read, edits) {
+        Ok(component) => format!("ok {}", about(component)),
+        Err(refusal) => format!("refused {refusal} {}", whole(Component::refused())),
+    }
+}
+
+/// A component, its verdict, margin and smallest capacity, each or its refusal, and its records as they are written.
+fn about(component: Component) -> String {
+    let refused = |refusal: Refusal| format!("refused {refusal}");
+    let verdict = judge::verdict(&component).map_or_else(refused, verdict_text);
+    let margin = judge::margin(&component).map_or_else(refused, margin_text);
+    let smallest = judge::smallest(&component).map_or_else(refused, smallest_text);
+    let mut buffer = [BUFFER_BYTE; EDITED];
+    let end = sheet::write_component(&component, &mut buffer, 0).expect("room for 64 tasks") as usize;
+    format!("{} {verdict} {margin} {smallest} {}", whole(component), row_text(&buffer[..end]))
 }
 
 /// The tree of a sheet that has a component at a place: the sheet's refusal, then 15.
@@ -340,15 +442,17 @@ pub fn answer(call: Call) -> String {
         Call::Supply(interface, t) => answered(supply::answer(&interface, t as u64), 0, |units| units.to_string()),
         Call::AddTask(component, task) => answered(add_task(&component, task), Component::refused(), whole),
         Call::RemoveTask(component, place) => answered(remove_task(&component, place), Component::refused(), whole),
+        Call::Make(number, capacity, period, deadline, table) => {
+            answered(make(number, capacity, period, deadline, table), Component::refused(), whole)
+        }
+        Call::Edit(row, place, edits) => edit(&row, place, &edits),
         Call::Legal(interface, offset, row) => {
             answered(trace::answer(&interface, offset as u64, &row), false, |yes| if yes { "yes" } else { "no" }.to_string())
         }
         Call::Walk(table, jobs, row, length) => walk(&table, &jobs, &row, length),
         Call::Verdict(component) => answered_alone(judge::verdict(&component), verdict_text),
         Call::Margin(component) => answered_alone(judge::margin(&component), margin_text),
-        Call::Capacity(component) => {
-            answered_alone(judge::smallest(&component), |units| units.map_or("none".to_string(), |units| units.to_string()))
-        }
+        Call::Capacity(component) => answered_alone(judge::smallest(&component), smallest_text),
         Call::Sheet(row) => faulted(sheet::read(&row).map(|sheet| sheet.components.len()), 0, |count| count.to_string()),
         Call::Part(row, place) => part(&row, place),
         Call::Read(row, place) => faulted(sheet::at_place(&row, place).map(|read| read.component), Component::refused(), whole),
@@ -382,33 +486,33 @@ mod tests {
         holds("check_task 8 2 9 0", "refused 9");
         holds("check_table 0", "ok");
         holds("check_interface 6 2 4", "ok");
-        holds("check_component 1 asked 6 4 1 8 2 7 5", "ok");
+        holds("check_component 1 asked 6 4 24 1 8 2 7 5", "ok");
         holds("dedicated", "ok 1 1 1");
         holds("common_divisor 12 18", "ok 6");
-        holds("common_period 1 stated 1 1 1 2 4 2 4 0 7 3 7 0", "ok 28");
-        holds("common_period 1 asked 3 3 1 1048576 1 1 0", "refused 10 0");
+        holds("common_period 1 stated 1 1 1 28 2 4 2 4 0 7 3 7 0", "ok 28");
+        holds("common_period 1 asked 3 3 above 1 1048576 1 1 0", "refused 10 0");
         holds("demand 2 4 2 4 0 7 3 7 0 14", "ok 12");
         holds("supply 6 2 4 8", "ok 2");
         holds("supply 6 2 4 1048577", "refused 9 0");
-        holds("add_task 7 asked 6 4 0 8 2 7 0", "ok 7 asked 6 4 1 8 2 7 0 zero");
-        holds("add_task 7 asked 6 4 0 8 2 7 5", "ok 7 asked 6 4 1 8 2 7 5 zero");
-        holds("add_task 7 asked 6 4 0 8 2 7 6", "refused 9 0 stated 1 1 1 0 zero");
-        holds("remove_task 7 stated 2 6 4 1 8 2 7 0 0", "ok 7 stated 2 6 4 0 zero");
-        holds("remove_task 7 stated 2 6 4 1 8 2 7 0 1", "refused 15 0 stated 1 1 1 0 zero");
+        holds("add_task 7 asked 6 4 6 0 8 2 7 0", "ok 7 asked 6 4 24 1 8 2 7 0 zero");
+        holds("add_task 7 asked 6 4 6 0 8 2 7 5", "ok 7 asked 6 4 24 1 8 2 7 5 zero");
+        holds("add_task 7 asked 6 4 6 0 8 2 7 6", "refused 9 0 stated 1 1 1 1 0 zero");
+        holds("remove_task 7 stated 2 6 4 24 1 8 2 7 0 0", "ok 7 stated 2 6 4 6 0 zero");
+        holds("remove_task 7 stated 2 6 4 24 1 8 2 7 0 1", "refused 15 0 stated 1 1 1 1 0 zero");
         holds("legal 6 2 4 2 0000000000000101", "ok yes");
         holds("legal 6 2 4 6 -", "refused 9 no");
         holds("walk 1 8 2 7 0 1 0 1 0 1 0 1 2 0000000000000101 1", "ok miss 7 0 1 0 1 1");
         holds("walk 1 8 2 7 0 1 0 1 0 1 0 1 2 0000000000000101 2", "refused 11 none 0 0 2 77 77");
-        holds("verdict 1 stated 2 6 4 1 8 2 7 0", "ok short 7 2");
-        holds("verdict 1 asked 6 4 1 8 2 7 0", "ok accepted 3");
-        holds("margin 1 asked 6 4 1 8 2 7 0", "ok 1 7");
-        holds("capacity 1 asked 6 4 1 4 2 2 0", "ok none");
-        holds("capacity 1 stated 4 6 4 1 8 2 7 0", "ok 3");
-        holds("capacity 1 asked 3 3 1 1048576 1 1 0", "refused 10");
+        holds("verdict 1 stated 2 6 4 24 1 8 2 7 0", "ok short 7 2");
+        holds("verdict 1 asked 6 4 24 1 8 2 7 0", "ok accepted 3");
+        holds("margin 1 asked 6 4 24 1 8 2 7 0", "ok 1 7");
+        holds("capacity 1 asked 6 4 12 1 4 2 2 0", "ok none");
+        holds("capacity 1 stated 4 6 4 24 1 8 2 7 0", "ok 3");
+        holds("capacity 1 asked 3 3 above 1 1048576 1 1 0", "refused 10");
         holds("sheet -", "refused 1 0 0");
         holds("sheet 060003000000", "ok 0");
         holds("part 060003000000 0", "refused 15 0 -");
-        holds("read 060003000000 0", "refused 15 0 0 stated 1 1 1 0 zero");
+        holds("read 060003000000 0", "refused 15 0 0 stated 1 1 1 1 0 zero");
         holds("write_end 256 8 1", "ok 7 a5060003000001a5");
         holds("write_end 257 8 9", "refused 9 0 a5a5a5a5a5a5a5a5");
         holds("host 060003000000 0 2 0", "15 a5a5");
@@ -429,10 +533,10 @@ mod tests {
         holds("write_pair 2 2 1 1", "refused 16 0 a5");
         holds("write_pair 1 2 7 0", "refused 11 0 a5a5a5a5a5a5a5");
         holds(&format!("workload {row} 1"), "ok waiting");
-        holds(&format!("workload {row} 4"), "ok 6 stated 1 1 1 1 4 2 4 0 zero");
-        holds(&format!("workload {row} 5"), "refused 15 0 0 stated 1 1 1 0 zero");
+        holds(&format!("workload {row} 4"), "ok 6 stated 1 1 1 4 1 4 2 4 0 zero");
+        holds(&format!("workload {row} 5"), "refused 15 0 0 stated 1 1 1 1 0 zero");
         let accepted = sheet(&five.replace("8 2 7", "8 2 8"));
-        holds(&format!("workload {accepted} 1"), "ok 2 stated 1 1 1 2 4 2 4 0 6 2 4 0 zero");
+        holds(&format!("workload {accepted} 1"), "ok 2 stated 1 1 1 12 2 4 2 4 0 6 2 4 0 zero");
         holds(&format!("tree {accepted} 1"), "ok 2 accepted 1 0 4");
         holds(&format!("tree {row} 0"), "ok 1 short 7 2 -1 7");
         holds(&format!("tree {row} 1"), "ok 2 waiting");
@@ -458,16 +562,63 @@ mod tests {
         holds("walk 1 8 2 8 1 1 0 1 -2 1 0 1 2 0000000000000101 1", "refused 12 none 0 0 1 77");
         holds("walk 1 8 2 8 1 1 0 1 -1 1 0 1 2 - 1", "ok none 0 0 1 2");
         holds("walk 1 8 2 8 1 1 0 1 -2147483648 1 4294967295 1 2 - 1", "refused 12 none 0 0 1 77");
-        holds("verdict 1 stated 2 6 4 1 8 2 8 1", "ok short 7 2");
-        holds("margin 1 stated 2 6 4 1 8 2 8 2", "ok -2 6");
-        holds("capacity 1 asked 6 4 1 8 2 8 3", "ok 4");
+        holds("verdict 1 stated 2 6 4 24 1 8 2 8 1", "ok short 7 2");
+        holds("margin 1 stated 2 6 4 24 1 8 2 8 2", "ok -2 6");
+        holds("capacity 1 asked 6 4 24 1 8 2 8 3", "ok 4");
         let late = row_text(&text::bytes("component 7 asked 6 4\ntask 8 2 8 3\nend 1").unwrap());
-        holds(&format!("read {late} 0"), "ok 7 asked 6 4 1 8 2 8 3 zero");
-        holds("write 7 asked 6 4 1 8 2 8 3 34 0", &format!("ok 34 {}", &late[..68]));
+        holds(&format!("read {late} 0"), "ok 7 asked 6 4 24 1 8 2 8 3 zero");
+        holds("write 7 asked 6 4 24 1 8 2 8 3 34 0", &format!("ok 34 {}", &late[..68]));
+    }
+
+    #[test]
+    fn the_calls_about_the_stored_common_period() {
+        let refused = |number: u16| format!("refused {number} 0 stated 1 1 1 1 0 zero");
+        holds("make 7 asked 6 4 1 8 2 8 1", "ok 7 asked 6 4 24 1 8 2 8 1 zero");
+        holds("make 7 stated 2 6 4 0", "ok 7 stated 2 6 4 6 0 zero");
+        holds("make 7 asked 3 3 1 1048576 1 1 0", "ok 7 asked 3 3 above 1 1048576 1 1 0 zero");
+        holds("make 7 stated 5 6 4 0", &refused(9));
+        holds("add_task 7 stated 2 6 4 6 0 8 2 8 1", "ok 7 stated 2 6 4 24 1 8 2 8 1 zero");
+        holds("add_task 7 stated 2 6 4 5 0 8 2 8 1", &refused(17));
+        holds("add_task 7 stated 2 6 4 5 0 8 2 8 7", &refused(9));
+        holds("add_task 7 stated 2 3 3 3 0 1048576 1 1 0", "ok 7 stated 2 3 3 above 1 1048576 1 1 0 zero");
+        holds("remove_task 7 stated 2 3 3 above 1 1048576 1 1 0 0", "ok 7 stated 2 3 3 3 0 zero");
+        holds("remove_task 7 stated 2 3 3 3145728 1 1048576 1 1 0 9", &refused(17));
+        holds("check_component 7 stated 2 6 4 above 1 8 2 8 1", "refused 17");
+        holds("common_period 7 stated 2 6 4 48 1 8 2 8 1", "refused 17 0");
+        holds("verdict 7 stated 2 6 4 0 1 8 2 8 1", "refused 17");
+        holds("margin 7 stated 2 3 3 1048576 1 1048576 1 1 0", "refused 17");
+        holds("capacity 7 stated 2 6 5 4294967295 1 8 2 8 1", "refused 17");
+        holds("capacity 7 stated 2 6 7 4294967295 1 8 2 8 1", "refused 9");
+        holds("write 7 stated 2 6 4 23 1 8 2 8 1 2 0", "refused 17 0 a5a5");
+        holds("write 7 stated 2 6 4 24 1 8 2 8 1 2 0", "refused 11 0 a5a5");
+    }
+
+    #[test]
+    fn a_component_is_read_edited_and_judged() {
+        let sheet = |lines: &str| row_text(&text::bytes(lines).unwrap());
+        let row = sheet("component 7 stated 6 2 4\ntask 8 2 7\nend 1");
+        let late = &sheet("component 7 stated 6 2 4\ntask 8 2 8 1\nend 1")[..76];
+        holds(&format!("edit {row} 0 2 add 8 2 8 1 remove 0"), &format!("ok 7 stated 2 6 4 24 1 8 2 8 1 zero short 7 2 -1 7 3 {late}"));
+        holds(&format!("edit {row} 0 1 remove 0"), &format!("ok 7 stated 2 6 4 6 0 zero accepted 2 none 0 {}", &row[..36]));
+        let long = &sheet("component 7 stated 6 2 4\ntask 8 2 7\ntask 1048575 1 1\nend 1")[..100];
+        let answer = format!("ok 7 stated 2 6 4 above 2 8 2 7 0 1048575 1 1 0 zero refused 10 refused 10 refused 10 {long}");
+        holds(&format!("edit {row} 0 1 add 1048575 1 1 0"), &answer);
+        holds(&format!("edit {row} 0 2 add 1048575 1 1 0 remove 1"), &format!("ok 7 stated 2 6 4 24 1 8 2 7 0 zero short 7 2 -1 7 3 {}", &row[..68]));
+        holds(&format!("edit {row} 0 0"), &format!("ok 7 stated 2 6 4 24 1 8 2 7 0 zero short 7 2 -1 7 3 {}", &row[..68]));
+        holds(&format!("edit {row} 0 2 remove 1 add 8 2 9 0"), "refused 15 0 stated 1 1 1 1 0 zero");
+        holds(&format!("edit {row} 0 2 add 8 2 9 0 remove 1"), "refused 9 0 stated 1 1 1 1 0 zero");
+        holds(&format!("edit {row} 1 1 remove 1"), "refused 15 0 0 stated 1 1 1 1 0 zero");
+        holds(&format!("edit {} 0 0", &row[..70]), "refused 1 34 0 stated 1 1 1 1 0 zero");
     }
 
     #[test]
     fn what_is_no_call_is_named() {
+        for stored in ["-1", "4294967296", "Above", "", "mark"] {
+            assert!(parse(&format!("verdict 1 stated 2 6 4 {stored} 0")).is_err(), "{stored}");
+        }
+        assert!(parse("edit - 0 201").is_err());
+        assert!(parse("edit - 0 1 move 3").is_err());
+        assert!(parse("edit - 0 2 remove 3").is_err());
         for release in ["-0", "+1", "2147483648", "-2147483649", "", "-"] {
             assert!(parse(&format!("walk 1 8 2 8 1 1 0 1 {release} 1 0 1 2 - 1")).is_err(), "{release}");
         }

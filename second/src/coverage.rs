@@ -1,10 +1,10 @@
 //! What a set of calls reaches: each refusal of each operation, each kind of answer, ties, both ends of each range, and the rules about
-//! pairs and trees and about lateness.
+//! pairs and trees, about lateness and about stored common periods.
 
 use crate::calls::{self, Call};
 use crate::numbers::{Capacity, Component, Interface, Table, Task, LIMIT, TASKS};
 use crate::tree::Tree;
-use crate::{coverage_late, coverage_pairs, demand, host, run, sheet, supply};
+use crate::{coverage_late, coverage_pairs, coverage_stored, demand, host, run, sheet, supply};
 use std::collections::BTreeMap;
 
 #[derive(Default)]
@@ -13,25 +13,27 @@ pub struct Seen {
 }
 
 /// For each kind of call the refusals that it can meet (RULES 13).
-const REFUSALS: [(&str, &[u16]); 26] = [
+const REFUSALS: [(&str, &[u16]); 28] = [
     ("check_task", &[9]),
     ("check_table", &[6, 9]),
     ("check_interface", &[9]),
-    ("check_component", &[6, 9, 10]),
-    ("common_period", &[6, 9, 10]),
+    ("check_component", &[6, 9, 10, 17]),
+    ("common_period", &[6, 9, 10, 17]),
     ("demand", &[6, 9]),
     ("supply", &[9]),
-    ("add_task", &[6, 9]),
-    ("remove_task", &[6, 9, 15]),
+    ("add_task", &[6, 9, 17]),
+    ("remove_task", &[6, 9, 15, 17]),
+    ("make", &[6, 9]),
+    ("edit", &[1, 2, 3, 4, 5, 6, 7, 8, 9, 14, 15, 16]),
     ("legal", &[9, 13]),
     ("walk", &[6, 9, 11, 12, 13]),
-    ("verdict", &[6, 9, 10]),
-    ("margin", &[6, 9, 10]),
-    ("capacity", &[6, 9, 10]),
+    ("verdict", &[6, 9, 10, 17]),
+    ("margin", &[6, 9, 10, 17]),
+    ("capacity", &[6, 9, 10, 17]),
     ("sheet", &[1, 2, 3, 4, 5, 6, 7, 8, 9, 14, 16]),
     ("part", &[1, 2, 3, 4, 5, 6, 7, 8, 9, 14, 15, 16]),
     ("read", &[1, 2, 3, 4, 5, 6, 7, 8, 9, 14, 15, 16]),
-    ("write", &[6, 9, 11]),
+    ("write", &[6, 9, 11, 17]),
     ("write_end", &[9, 11]),
     ("read_pair", &[1, 2, 3, 4, 5, 6, 7, 8, 9, 14, 15, 16]),
     ("write_pair", &[11, 16]),
@@ -44,7 +46,7 @@ const REFUSALS: [(&str, &[u16]); 26] = [
 
 /// The answers that are no refusals, by what stands in them; ties; and the ends of ranges, the last one taken and the first
 /// one refused.
-const OTHERS: [&str; 98] = [
+const OTHERS: [&str; 100] = [
     "check_task ok",
     "check_table ok",
     "check_interface ok",
@@ -55,6 +57,8 @@ const OTHERS: [&str; 98] = [
     "supply ok",
     "add_task ok",
     "remove_task ok",
+    "make ok",
+    "edit ok",
     "legal ok yes",
     "legal ok no",
     "walk ok none",
@@ -171,6 +175,7 @@ impl Seen {
         self.ties(&call);
         self.tree(&call);
         coverage_late::of_call(&call).iter().for_each(|what| self.add(what));
+        coverage_stored::of_call(&call).iter().for_each(|what| self.add(what));
         let at = if let Call::Host(.., at) | Call::HostCheck(.., at) | Call::HostAll(.., at) = &call { *at as usize } else { 0 };
         let answer = calls::answer(call);
         let words: Vec<&str> = answer.split(' ').collect();
@@ -314,6 +319,9 @@ impl Seen {
             Call::CheckComponent(component) | Call::CommonPeriod(component) => self.component(component),
             Call::Verdict(component) | Call::Margin(component) | Call::Capacity(component) => self.component(component),
             Call::AddTask(component, _) | Call::RemoveTask(component, _) => self.component(component),
+            Call::Make(number, capacity, period, deadline, table) => {
+                self.component(&Component::new(*number, *capacity, *period, *deadline, table.clone()));
+            }
             Call::Demand(table, t) => {
                 self.table(table);
                 self.instant(*t as u64);
@@ -332,10 +340,10 @@ impl Seen {
                 self.add(&format!("trace {}", row.len()));
                 self.add(&format!("jobs {}", jobs.tasks.len()));
             }
-            Call::Sheet(row) | Call::Part(row, _) | Call::Read(row, _) => self.sheet(row),
+            Call::Sheet(row) | Call::Part(row, _) | Call::Read(row, _) | Call::Edit(row, ..) => self.sheet(row),
             Call::ReadPair(row, _) | Call::Workload(row, _) | Call::Tree(row, _) => self.sheet(row),
             Call::WritePair(_, buffer, at) => self.room(8, buffer, *at),
-            Call::Write(component, buffer, at) if component.check().is_ok() => self.room(sheet::component_bytes(component).len(), buffer, *at),
+            Call::Write(component, buffer, at) if component.check_stored().is_ok() => self.room(sheet::component_bytes(component).len(), buffer, *at),
             Call::WriteEnd(_, buffer, at) => self.room(6, buffer, *at),
             Call::Host(row, _, buffer, at) => {
                 self.sheet(row);
@@ -392,7 +400,8 @@ impl Seen {
         let refusals = REFUSALS.iter().flat_map(|(kind, numbers)| numbers.iter().map(move |number| format!("{kind} refused {number}")));
         let mut text = String::new();
         let mut missing = 0;
-        for what in OTHERS.iter().chain(&coverage_pairs::REACHED).chain(&coverage_late::REACHED).map(|what| what.to_string()).chain(refusals) {
+        let rules = coverage_pairs::REACHED.iter().chain(&coverage_late::REACHED).chain(&coverage_stored::REACHED);
+        for what in OTHERS.iter().chain(rules).map(|what| what.to_string()).chain(refusals) {
             let count = self.reached(&what);
             missing += (count == 0) as usize;
             text += &format!("{count:>8} {what}\n");
@@ -414,6 +423,8 @@ fn kind(call: &Call) -> &'static str {
         Call::Supply(..) => "supply",
         Call::AddTask(..) => "add_task",
         Call::RemoveTask(..) => "remove_task",
+        Call::Make(..) => "make",
+        Call::Edit(..) => "edit",
         Call::Legal(..) => "legal",
         Call::Walk(..) => "walk",
         Call::Verdict(..) => "verdict",

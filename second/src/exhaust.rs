@@ -1,8 +1,9 @@
-//! Every small call there is, as a check of the definitions by running: all traces, all components, for each component the runs that
-//! show it to be short (RULES 7), and small sheets damaged in every way: a plain one, one with late tasks, a nested one.
+//! Every small call there is, as a check of the definitions by running: all traces, all components and stored common periods, for each
+//! component the runs that show it to be short (RULES 7), and small sheets damaged in every way: a plain one, one with late tasks, a
+//! nested one.
 
 use crate::calls::{component_text, row_text, walk_text};
-use crate::numbers::{Capacity, Component, Interface, Table, Task};
+use crate::numbers::{Capacity, Component, Interface, Stored, Table, Task};
 use crate::run::{Job, Jobs};
 use crate::{sheet, text, trace};
 
@@ -42,7 +43,7 @@ fn tables(longest: u32) -> Vec<Table> {
 }
 
 fn component(interface: Interface, capacity: Capacity, table: &Table) -> Component {
-    Component { number: 1, period: interface.period, capacity, deadline: interface.deadline, table: table.clone() }
+    Component::new(1, capacity, interface.period, interface.deadline, table.clone())
 }
 
 /// The trace question on every trace of at most 7 slots, for every interface up to period 3 at every offset.
@@ -62,7 +63,8 @@ pub fn traces() -> Vec<String> {
     calls
 }
 
-/// Verdict, margin and smallest capacity of every component up to period 3 with at most two tasks up to period 4.
+/// Verdict, margin and smallest capacity of every component up to period 3 with at most two tasks up to period 4; and the calls of
+/// `stored`.
 pub fn components() -> Vec<String> {
     let mut calls = vec![];
     for interface in interfaces(3) {
@@ -73,6 +75,24 @@ pub fn components() -> Vec<String> {
             if interface.capacity == 0 {
                 let asked = component_text(&component(interface, Capacity::Asked, &table));
                 calls.extend(["verdict", "margin", "capacity"].map(|kind| format!("{kind} {asked}")));
+            }
+        }
+    }
+    calls.extend(stored());
+    calls
+}
+
+/// Each operation that takes a component, for every Π up to 3 with at most two tasks of T up to 4, and for every stored common period
+/// from 0 to 13, which is one above the largest that is right, and the mark.
+fn stored() -> Vec<String> {
+    let short = |table: &Table| table.tasks.iter().all(|task| task.deadline == 1);
+    let operations = ["check_component IT", "common_period IT", "verdict IT", "margin IT", "capacity IT", "add_task IT 4 1 4 0", "remove_task IT 0", "write IT 50 0"];
+    let mut calls = vec![];
+    for period in 1..=3 {
+        for table in tables(4).iter().filter(|table| short(table)) {
+            for stored in (0..=13).map(Stored::Number).chain([Stored::Above]) {
+                let given = component_text(&Component { stored, ..component(Interface::new(period, 1, 1), Capacity::Asked, table) });
+                calls.extend(operations.map(|call| call.replace("IT", &given)));
             }
         }
     }

@@ -1,14 +1,15 @@
 //! Calls made by chance: in range and out of range, legal and damaged, small and at the ends of each range.
 
-use crate::calls::{component_text, jobs_text, row_text, table_text, task_text};
+use crate::calls::{component_text, jobs_text, plain_text, row_text, table_text, task_text};
 use crate::chance::Chance;
 use crate::nested::{self, Made};
 use crate::numbers::{Capacity, Component, Interface, Table, Task, LIMIT};
 use crate::run::{Job, Jobs};
+use crate::stored::{self, held};
 use crate::{calls, host, sheet, trace};
 
 /// The kinds of call.
-pub const KINDS: [&str; 27] = [
+pub const KINDS: [&str; 29] = [
     "check_task",
     "check_table",
     "check_interface",
@@ -19,6 +20,8 @@ pub const KINDS: [&str; 27] = [
     "supply",
     "add_task",
     "remove_task",
+    "make",
+    "edit",
     "legal",
     "walk",
     "verdict",
@@ -51,15 +54,21 @@ pub fn call(c: &mut Chance, kind: &str) -> Option<String> {
             format!("{} {}", table_text(&table), instant(c))
         }
         "supply" => format!("{} {}", interface_text(&given_interface(c)), instant(c)),
-        "add_task" => format!("{} {}", component_text(&given_component(c)), task_text(&given_task(c))),
+        "add_task" => {
+            let component = given_component(c);
+            let task = if c.one_in(6) { stored::far_task(c) } else { given_task(c) };
+            format!("{} {}", component_text(&component), task_text(&task))
+        }
         "remove_task" => {
             let component = given_component(c);
             format!("{} {}", component_text(&component), place(c, component.table.count))
         }
+        "make" => plain_text(&some_component(c)),
+        "edit" => edit(c),
         "legal" => legal(c),
         "walk" => walk(c),
-        "verdict" | "margin" => component_text(&judged_component(c)),
-        "capacity" => component_text(&searched(judged_component(c))),
+        "verdict" | "margin" => component_text(&held(judged_component(c), c)),
+        "capacity" => component_text(&held(searched(judged_component(c)), c)),
         "sheet" => row_text(&given_sheet(c)),
         "part" | "read" => {
             let made = made_sheet(c);
@@ -246,13 +255,21 @@ fn component_of(c: &mut Chance, interface: Interface, table: Table) -> Component
         _ => c.below(1 << 16) as u16,
     };
     let capacity = if c.one_in(2) { Capacity::Asked } else { Capacity::Stated(interface.capacity) };
-    Component { number, period: interface.period, capacity, deadline: interface.deadline, table }
+    Component::new(number, capacity, interface.period, interface.deadline, table)
 }
 
-fn given_component(c: &mut Chance) -> Component {
+/// A component in range or out of it, with the right common period stored where there is one.
+fn some_component(c: &mut Chance) -> Component {
+    if c.one_in(8) {
+        return stored::about_the_limit(c);
+    }
     let interface = given_interface(c);
     let table = given_table(c);
     component_of(c, interface, table)
+}
+
+fn given_component(c: &mut Chance) -> Component {
+    held(some_component(c), c)
 }
 
 /// The component with a deadline small enough for the plain search over every capacity and every instant.
@@ -271,7 +288,7 @@ fn searched(component: Component) -> Component {
 
 /// A component to be judged: mostly one whose common period divides a chosen number.
 fn judged_component(c: &mut Chance) -> Component {
-    let made = if c.one_in(10) { given_component(c) } else { dividing_component(c) };
+    let made = if c.one_in(10) { some_component(c) } else { dividing_component(c) };
     if made.capacity == Capacity::Asked { searched(made) } else { made }
 }
 
@@ -529,7 +546,7 @@ fn full_sheet(c: &mut Chance) -> Vec<u8> {
     let components: Vec<Component> = (0..67u16).map(|number| {
         let own = tasks.split_off(tasks.len().saturating_sub(64));
         let capacity = if number < 36 { Capacity::Stated(1) } else { Capacity::Asked };
-        Component { number, period: 6, capacity, deadline: 2, table: Table::new(own) }
+        Component::new(number, capacity, 6, 2, Table::new(own))
     }).collect();
     sheet_of(&components)
 }
@@ -548,7 +565,7 @@ fn many_components(c: &mut Chance) -> Vec<u8> {
 fn too_many_tasks(c: &mut Chance) -> Vec<u8> {
     let task = Task::new(8, 2, 8);
     let tasks = vec![task.late(c.pick(&[0, 6])); 64];
-    let component = Component { number: 4, period: 6, capacity: Capacity::Asked, deadline: 4, table: Table::new(tasks) };
+    let component = Component::new(4, Capacity::Asked, 6, 4, Table::new(tasks));
     let more = if c.one_in(3) { vec![] } else { nested::some_task(c, task) };
     [sheet::component_bytes(&component), more, sheet::end_bytes(1)].concat()
 }
@@ -652,6 +669,22 @@ fn flat_sheet(c: &mut Chance) -> Made {
         damage_sheet(c, &mut bytes);
     }
     flat(bytes, count)
+}
+
+/// Edits of a component of a sheet that is sound or damaged, with pairs or without.
+fn edit(c: &mut Chance) -> String {
+    loop {
+        let (bytes, components) = if c.one_in(2) {
+            let made = made_sheet(c);
+            (made.bytes, made.components)
+        } else {
+            stored::sheet(c, dividing_component)
+        };
+        let place = place(c, components);
+        if let Some(words) = stored::edits(c, &bytes, place) {
+            return words;
+        }
+    }
 }
 
 /// A sheet, sound or damaged.

@@ -41,7 +41,7 @@ pub fn least_margin(interface: &Interface, table: &Table, common: u64) -> Margin
     least
 }
 
-/// The operation of RULES 11: what a component would need, though it may state another capacity. Refused with 6, 9, 10.
+/// The operation of RULES 11: what a component would need, though it may state another capacity. Refused with 6, 9, 17, 10.
 pub fn smallest(component: &Component) -> Result<Option<u32>, Refusal> {
     let common = component.common_period()?;
     Ok(smallest_capacity(component, common))
@@ -87,7 +87,7 @@ mod tests {
     fn component(interface: (u32, Option<u32>, u32), tasks: &[(u32, u32, u32)]) -> Component {
         let capacity = interface.1.map_or(Capacity::Asked, Capacity::Stated);
         let table = Table::new(tasks.iter().map(|&(t, c, d)| Task::new(t, c, d)).collect());
-        Component { number: 1, period: interface.0, capacity, deadline: interface.2, table }
+        Component::new(1, capacity, interface.0, interface.2, table)
     }
 
     #[test]
@@ -107,7 +107,7 @@ mod tests {
     /// The figures of the request: (8, 2, 8, J) on (6, 2, 4), and asked with Π 6 and Δ 4.
     #[test]
     fn what_lateness_costs() {
-        let of = |capacity, lateness| Component { table: Table::new(vec![Task::new(8, 2, 8).late(lateness)]), ..component((6, capacity, 4), &[]) };
+        let of = |capacity, lateness| Component { table: Table::new(vec![Task::new(8, 2, 8).late(lateness)]), ..component((6, capacity, 4), &[(8, 2, 8)]) };
         let stated = |lateness| (verdict(&of(Some(2), lateness)), margin(&of(Some(2), lateness)));
         assert_eq!(stated(0), (Ok((Verdict::Accepted, 2)), Ok(Some((0, 8)))));
         assert_eq!(stated(1), (Ok((Verdict::Short(7), 2)), Ok(Some((-1, 7)))));
@@ -214,7 +214,7 @@ mod tests {
     }
 
     fn with(interface: Interface, table: &Table) -> Component {
-        Component { number: 0, period: interface.period, capacity: Capacity::Stated(interface.capacity), deadline: interface.deadline, table: table.clone() }
+        Component::new(0, Capacity::Stated(interface.capacity), interface.period, interface.deadline, table.clone())
     }
 
     fn small(chance: &mut Chance) -> (Interface, Table) {

@@ -47,7 +47,7 @@ fn split(bytes: &[u8]) -> Vec<Vec<u8>> {
 pub fn component(number: u16, (period, capacity, deadline): (u32, Option<u32>, u32), tasks: &[(u32, u32, u32)]) -> Component {
     let capacity = capacity.map_or(Capacity::Asked, Capacity::Stated);
     let table = Table::new(tasks.iter().map(|&(t, c, d)| Task::new(t, c, d)).collect());
-    Component { number, period, capacity, deadline, table }
+    Component::new(number, capacity, period, deadline, table)
 }
 
 /// Rising numbers, sometimes from 0 on or up to the largest.
@@ -164,7 +164,7 @@ fn grown(c: &mut Chance, count: usize, accepted: bool) -> Nest {
             }
         }
         growth.answers.push(if growth.waits(place) { Judged::Waiting } else { judged(&with_tasks(&own, more)) });
-        growth.components.push(own);
+        growth.components.push(own.right());
     }
     growth.joined.sort();
     let mut nest = Nest { components: growth.components, pairs: vec![] };

@@ -93,13 +93,18 @@ pub fn scan(bytes: &[u8]) -> (Sheet, Option<Fault>) {
         return (sheet, Some((14, 0)));
     }
     let mut at = 0;
-    loop {
+    let fault = loop {
         match sheet.take(bytes, at) {
             Ok(Some(next)) => at = next,
-            Ok(None) => return (sheet, None),
-            Err(refusal) => return (sheet, Some((refusal, at))),
+            Ok(None) => break None,
+            Err(refusal) => break Some((refusal, at)),
         }
+    };
+    // no byte of a sheet holds a common period: it is worked out once all tasks are there
+    for read in &mut sheet.components {
+        read.component.stored = read.component.common();
     }
+    (sheet, fault)
 }
 
 impl Sheet {
@@ -135,7 +140,7 @@ impl Sheet {
             STATED => (Capacity::Stated(time(fields, 10)), time(fields, 14)),
             _ => (Capacity::Asked, time(fields, 10)),
         };
-        let component = Component { number: own, period: time(fields, 6), capacity, deadline, table: Table::new(vec![]) };
+        let component = Component::new(own, capacity, time(fields, 6), deadline, Table::new(vec![]));
         component.check()?;
         self.components.push(Read { start: at, end: at + fields.len(), component });
         Ok(())
@@ -271,9 +276,9 @@ pub fn times(bytes: &mut Vec<u8>, values: &[u32]) {
     }
 }
 
-/// Writes a component and answers the place behind it, or 6, 9, 11 (RULES 13).
+/// Writes a component and answers the place behind it, or 6, 9, 17, 11 (RULES 13).
 pub fn write_component(component: &Component, buffer: &mut [u8], at: u64) -> Result<u64, Refusal> {
-    component.check()?;
+    component.check_stored()?;
     put(&component_bytes(component), buffer, at)
 }
 
@@ -306,10 +311,11 @@ pub fn put(bytes: &[u8], buffer: &mut [u8], at: u64) -> Result<u64, Refusal> {
 #[cfg(test)]
 mod tests {
     use super::*;
+    use crate::numbers::Stored;
     use crate::text;
 
     fn one(number: u16) -> Component {
-        Component { number, period: 6, capacity: Capacity::Stated(2), deadline: 4, table: Table::new(vec![Task::new(8, 2, 8)]) }
+        Component::new(number, Capacity::Stated(2), 6, 4, Table::new(vec![Task::new(8, 2, 8)]))
     }
 
     fn sheet_of(components: &[Component]) -> Vec<u8> {
@@ -338,7 +344,7 @@ mod tests {
     #[test]
     fn lateness_is_stated_where_it_is_not_0() {
         let table = Table::new(vec![Task::new(8, 2, 8), Task::new(8, 2, 8).late(1), Task::new(4, 1, 4)]);
-        let component = Component { number: 7, capacity: Capacity::Asked, table, ..one(7) };
+        let component = Component { capacity: Capacity::Asked, table, ..one(7) };
         let sheet = sheet_of(&[component.clone()]);
         assert_eq!(sheet[14..18], [16, 0, 2, 0]);
         assert_eq!(sheet[30..50], [20, 0, 5, 0, 8, 0, 0, 0, 2, 0, 0, 0, 8, 0, 0, 0, 1, 0, 0, 0]);
@@ -350,6 +356,23 @@ mod tests {
         assert_eq!(write_component(&component, &mut buffer, 3), Err(11));
         let worse = Component { table: Table::new(vec![Task::new(8, 2, 8).late(7)]), ..component };
         assert_eq!(write_component(&worse, &mut [], 9), Err(9));
+    }
+
+    /// T = 8 and T = 9 on Π = 6 make 72; T = 1,048,576 on Π = 3 is above the limit. The bytes are the same whatever is stored.
+    #[test]
+    fn the_common_period_is_read_off_the_tasks_and_not_written() {
+        let lines = "component 1 stated 6 2 4\ntask 8 2 8\ntask 9 1 9\ncomponent 2 asked 3 3\ntask 1048576 1 1\ncomponent 3 asked 5 4\nend 3";
+        let sheet = text::bytes(lines).unwrap();
+        let stored: Vec<Stored> = read(&sheet).unwrap().components.iter().map(|read| read.component.stored).collect();
+        assert_eq!(stored, [Stored::Number(72), Stored::Above, Stored::Number(5)]);
+        let long = at_place(&sheet, 1).unwrap();
+        let mut buffer = [0xa5; 31];
+        assert_eq!(write_component(&long.component, &mut buffer, 1), Ok(31));
+        assert_eq!(buffer[1..], sheet[long.start..long.end]);
+        let wrong = Component { stored: Stored::Number(3_145_728), ..long.component };
+        assert_eq!(write_component(&wrong, &mut buffer, 1), Err(17));
+        assert_eq!(write_component(&wrong, &mut [], 1), Err(17));
+        assert_eq!(write_component(&Component { deadline: 4, ..wrong }, &mut [], 1), Err(9));
     }
 
     #[test]

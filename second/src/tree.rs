@@ -31,12 +31,12 @@ pub fn as_task(child: &Interface) -> Option<Task> {
     (child.capacity > 0).then(|| Task::new(child.period, child.capacity, child.deadline))
 }
 
-/// A component with more tasks behind its own.
+/// A component with more tasks behind its own; it stores the common period of them all.
 pub fn with_tasks(component: &Component, more: impl IntoIterator<Item = Task>) -> Component {
     let mut whole = component.clone();
     whole.table.tasks.extend(more);
     whole.table.count = whole.table.tasks.len() as u64;
-    whole
+    whole.right()
 }
 
 /// A workload that doesn't wait, judged.

@@ -92,6 +92,14 @@ divides-second a b = euclid-divides (suc b) a b (lt-suc-self b) .1
 pub divisor-positive : (a b : ℕ) → 1 ≤ a → 1 ≤ commonDivisor a b
 divisor-positive a b h = pos-of-dvd-of-pos (divides-first a b) h
 
+-- there is none only where there is nothing to divide
+pub no-divisor : (a b : ℕ) → commonDivisor a b ≡ 0 → b ≡ 0
+no-divisor a b e = go (eq-zero-or-pos b)
+  where
+    go : (b ≡ 0) ⊎ (0 < b) → b ≡ 0
+    go (inl z) = z
+    go (inr l) = absurd (omega (arith, e, pos-of-dvd-of-pos (divides-second a b) l))
+
 -- the multiple times the divisor is the product
 product : (a b : ℕ) → commonMultiple a b * commonDivisor a b ≡ a * b
 unfolding commonMultiple
@@ -124,7 +132,7 @@ multiple-least a b m h x y = go (eq-zero-or-pos m)
 -- ---- the common period
 
 -- the first multiple of a list in range is positive again
-first-positive : (p : ℕ) (k : Task) (ks : List Task) → 1 ≤ p → validTasks (k ∷ ks) ≡ true → 1 ≤ commonMultiple p (T k)
+pub first-positive : (p : ℕ) (k : Task) (ks : List Task) → 1 ≤ p → validTasks (k ∷ ks) ≡ true → 1 ≤ commonMultiple p (T k)
 first-positive p k ks h e = let v = valid-head k ks e in multiple-positive p (T k) h (le-trans (v .works) (le-trans (v .fits) (v .within)))
 
 pub common-positive : (p : ℕ) (ks : List Task) → 1 ≤ p → validTasks ks ≡ true → 1 ≤ commonPeriod p ks

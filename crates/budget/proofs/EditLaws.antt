@@ -1,5 +1,4 @@
--- Laws of edits and of tables: a returned table reads back as its tasks, components that count as the same get the same answers, and removing
--- undoes adding. All go by what is read of a table, its count and its first places, and never by the places from the count on.
+-- Laws of edits: components that count as the same get the same answers, and removing undoes adding. All go by what is read of a table, its count and its first places, and never by the places from the count on.
 use Prim.Native.Nat.{ℕ, suc, _≤_, _<_}
 use mathlib.Core.Path.{_≡_, refl, sym, ap₂, _∙_}
 use mathlib.Core.Bool.{Bool, true, false, cond, _&&_}
@@ -14,34 +13,31 @@ use native.Mathlib.Omega.{arith}
 use Rattle.budget.specs.declared.component.Component.{Component}
 use Rattle.budget.specs.declared.task.Task.{Task}
 use Rattle.budget.specs.declared.task.Table.{Table}
-use Rattle.budget.specs.Component.{Same, withTasks, interfaceOf, validComponent, componentRefusal, commonPeriodOf, commonPeriodAnswer}
+use Rattle.budget.specs.Component.{Right, Same, isRight, withTasks, interfaceOf, validComponent, componentRefusal, commonPeriodOf, commonPeriodAnswer}
 use Rattle.budget.specs.Demand.{demandRefusal, demandAnswer}
 use Rattle.budget.specs.Edit.{added, removed, edited, addingRefusal, addingAnswer, removingRefusal, removingAnswer}
 use Rattle.budget.specs.Interface.{validInterface}
 use Rattle.budget.specs.Limits.{most-tasks}
 use Rattle.budget.specs.Refusal as refusal
 use Rattle.budget.specs.Task.{tasksOf, tableOf, tableRefusal, validTask, validTasks}
-use Rattle.budget.proofs.Answers.{passed}
+use Rattle.budget.proofs.CommonLaws.{right, is-right, with-tasks-right}
+use Rattle.budget.proofs.TableLaws.{tasks-of-table}
 use Rattle.budget.proofs.Valid.{both, and-true}
-
--- a table that is returned reads back as its tasks
-pub tasks-of-table : (ks : List Task) → tasksOf (tableOf ks) ≡ ks
-unfolding tasksOf tableOf
-tasks-of-table ks = take-append-seam ks _
 
 pub count-of-tasks : (t : Table) → t .count ≤ length (t .tasks) → length (tasksOf t) ≡ t .count
 unfolding tasksOf
 count-of-tasks t h = length-take-le (t .count) (t .tasks) h
 
--- what is returned of a component is the same component
-pub returned-same : (c : Component) → length (c .table .tasks) ≡ most-tasks → c .table .count ≤ most-tasks → Same (withTasks c (tasksOf (c .table))) c
+-- what is returned of a component whose stored value is right is the same component
+pub returned-same : (c : Component) → length (c .table .tasks) ≡ most-tasks → c .table .count ≤ most-tasks → Right c → Same (withTasks c (tasksOf (c .table))) c
 unfolding withTasks tableOf
-returned-same c l h =
+returned-same c l h r =
     record {
       number = refl;
       period = refl;
       capacity = refl;
       deadline = refl;
+      common = sym r;
       count = count-of-tasks (c .table) (rw l h);
       tasks = tasks-of-table _;
     }
@@ -61,14 +57,14 @@ pub record SameAnswers (a b : Component) : Type 0 where
 
 -- components that are the same get the same answers: none reads the places from the count on
 pub same-answers : (a b : Component) → Same a b → SameAnswers a b
-unfolding componentRefusal commonPeriodAnswer commonPeriodOf validComponent interfaceOf addingAnswer addingRefusal removingAnswer removingRefusal edited withTasks
+unfolding componentRefusal commonPeriodAnswer commonPeriodOf validComponent isRight interfaceOf addingAnswer addingRefusal removingAnswer removingRefusal edited withTasks
 same-answers a b s =
     record {
-      refusal = rw (s .tasks, s .count, s .period, s .capacity, s .deadline);
-      common-period = rw (s .tasks, s .count, s .period, s .capacity, s .deadline);
+      refusal = rw (s .tasks, s .count, s .period, s .capacity, s .deadline, s .common);
+      common-period = rw (s .tasks, s .count, s .period, s .capacity, s .deadline, s .common);
       demand = same-demand (a .table) (b .table) (s .count) (s .tasks);
-      adding = λ k. rw (s .tasks, s .count, s .period, s .capacity, s .deadline, s .number);
-      removing = λ at. rw (s .tasks, s .count, s .period, s .capacity, s .deadline, s .number);
+      adding = λ k. rw (s .tasks, s .count, s .period, s .capacity, s .deadline, s .common, s .number);
+      removing = λ at. rw (s .tasks, s .count, s .period, s .capacity, s .deadline, s .common, s .number);
     }
 
 valid-added : (ks : List Task) (k : Task) → validTasks ks ≡ true → validTask k ≡ true → validTasks (added ks k) ≡ true
@@ -82,18 +78,21 @@ pub record Addable (c : Component) (k : Task) : Type 0 where
   pub interface : validInterface (interfaceOf c) ≡ true
   pub tasks : validTasks (tasksOf (c .table)) ≡ true
   pub task : validTask k ≡ true
+  pub common : Right c
 
-addable-by : (full valid : Bool) → cond full refusal.tasks (cond valid refusal.none refusal.range) ≡ refusal.none → (full ≡ false) × (valid ≡ true)
-addable-by true valid e = absurd (omega (arith, e))
-addable-by false valid e = (refl, passed valid e)
+addable-by : (full valid kept : Bool) → cond full refusal.tasks (cond valid (cond kept refusal.none refusal.common) refusal.range) ≡ refusal.none → (full ≡ false) × (valid ≡ true) × (kept ≡ true)
+addable-by true valid kept e = absurd (omega (arith, e))
+addable-by false true true e = (refl, refl, refl)
+addable-by false true false e = absurd (omega (arith, e))
+addable-by false false kept e = absurd (omega (arith, e))
 
 pub addable : (c : Component) (k : Task) → addingRefusal c k ≡ refusal.none → Addable c k
 unfolding addingRefusal validComponent
 addable c k e =
-    let r = addable-by (leb most-tasks (c .table .count)) (validComponent c && validTask k) e in
+    let r = addable-by (leb most-tasks (c .table .count)) (validComponent c && validTask k) (isRight c) e in
     let s = both (validComponent c) _ (r .1) in
     let i = both (validInterface (interfaceOf c)) _ (s .0) in
-    record { room = leb-false _ _ (r .0); interface = i .0; tasks = i .1; task = s .1 }
+    record { room = leb-false _ _ (r .0); interface = i .0; tasks = i .1; task = s .1; common = right c (r .2) }
 
 length-added : (ks : List Task) (k : Task) → length (added ks k) ≡ suc (length ks)
 unfolding added
@@ -109,6 +108,7 @@ module _ (c : Component) (k : Task) (ks : List Task) (i : validInterface (interf
   unfolding removingRefusal withTasks validComponent interfaceOf tableOf
   removing-passes =
       rw (
+        is-right (withTasks c (added ks k)) (with-tasks-right c (added ks k)),
         tasks-of-table (added ks k),
         v,
         i,

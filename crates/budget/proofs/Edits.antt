@@ -1,22 +1,28 @@
 -- What an edit answers, by the refusals that it comes upon in turn.
 use Prim.Native.Nat.{ℕ, _≤_, _<_}
-use mathlib.Core.Path.{_≡_, sym, _∙_}
-use mathlib.Core.Bool.{false, cond}
+use mathlib.Core.Path.{_≡_, refl, sym, _∙_, ap}
+use mathlib.Core.Bool.{Bool, true, false, cond, _&&_}
 use mathlib.Core.List.{List}
 use native.Mathlib.Nat.{le-of-lt}
 use native.Mathlib.Omega.{arith}
-use lib.Dec.{ltb}
-use borrow.Author.Tests.{le-leb, lt-leb, le-ltb, lt-ltb, ne-eqb}
+use lib.Dec.{leb}
+use borrow.Author.Tests.{le-leb, lt-leb, le-ltb, lt-ltb, ne-eqb, leb-false}
+use Rattle.budget.specs.declared.component.Capacity.{Capacity}
 use Rattle.budget.specs.declared.component.Component.{Component}
 use Rattle.budget.specs.declared.edit.Edited.{Edited}
+use Rattle.budget.specs.declared.quantity.Time.{Time}
+use Rattle.budget.specs.declared.task.Table.{Table}
 use Rattle.budget.specs.declared.task.Task.{Task}
-use Rattle.budget.specs.Component.{rangeRefusal, refused, validComponent, withTasks}
+use Rattle.budget.specs.Component.{Right, heldRefusal, isRight, rangeRefusal, refused, validComponent, withTasks}
 use Rattle.budget.specs.Edit.{edited, added, removed, addingRefusal, addingAnswer, removingRefusal, removingAnswer}
 use Rattle.budget.specs.Limits.{most-tasks}
 use Rattle.budget.specs.Refusal as refusal
-use Rattle.budget.specs.Task.{taskRefusal, tasksOf}
+use Rattle.budget.specs.Make.{makingAnswer, unmade}
+use Rattle.budget.specs.Task.{taskRefusal, tasksOf, validTask}
+use Rattle.budget.specs.inner.Edits.{addingRanges, removedAnswer}
 use Rattle.budget.proofs.Answers.{failed}
-use Rattle.budget.proofs.Ranges.{InRange, refused-first, asked-next}
+use Rattle.budget.proofs.CommonLaws.{is-right}
+use Rattle.budget.proofs.Ranges.{InRange, refused-first, held-first, asked-next}
 
 -- an edit that is refused, and one that is not
 abbrev pub none : ℕ → Edited
@@ -33,50 +39,84 @@ edited-given : (r : ℕ) (c : Component) (ks : List Task) → r ≡ refusal.none
 unfolding edited
 edited-given r c ks e = rw e
 
--- ---- adding: a full table, then the ranges, then the task
+-- ---- adding: a full table, then the ranges and the task, then the stored value
 module _ (c : Component) (k : Task) where
-  adding-refused : (n : ℕ) → addingRefusal c k ≡ n → (n ≡ refusal.none → ⊥) → addingAnswer c k ≡ none n
-  unfolding addingAnswer
-  adding-refused n e h = edited-refused _ n c _ e h
-
-  pub adding-full : most-tasks ≤ c .table .count → addingAnswer c k ≡ none refusal.tasks
-  unfolding addingRefusal
-  adding-full h = adding-refused refusal.tasks (rw (le-leb _ _ h)) (λ e. omega (arith, e))
+  pub ranges-full : most-tasks ≤ c .table .count → addingRanges c k ≡ refusal.tasks
+  unfolding addingRanges
+  ranges-full h = rw (le-leb _ _ h)
 
   module _ (l : c .table .count < most-tasks) where
-    pub adding-ranges : (n : ℕ) → n ≡ rangeRefusal c → (n ≡ refusal.none → ⊥) → addingAnswer c k ≡ none n
-    unfolding addingRefusal rangeRefusal
-    adding-ranges n e h =
+    pub ranges-out : (rangeRefusal c ≡ refusal.none → ⊥) → addingRanges c k ≡ rangeRefusal c
+    unfolding addingRanges rangeRefusal
+    ranges-out h =
         let under = le-ltb most-tasks (c .table .count) (le-of-lt l) in
-        let out : validComponent c ≡ false = failed (validComponent c) (λ z. h (e ∙ rw under z)) in
-        adding-refused n (sym (e ∙ rw (under, out, lt-leb _ _ l))) h
+        let out : validComponent c ≡ false = failed (validComponent c) (λ z. h (rw under z)) in
+        rw (under, out, lt-leb _ _ l)
 
-    adding-next : InRange c → addingRefusal c k ≡ taskRefusal k
-    unfolding addingRefusal validComponent taskRefusal
-    adding-next v = rw (lt-leb _ _ l, v .interface, v .tasks)
+    pub ranges-task : InRange c → addingRanges c k ≡ taskRefusal k
+    unfolding addingRanges validComponent taskRefusal
+    ranges-task v = rw (lt-leb _ _ l, v .interface, v .tasks)
 
-    pub adding-task : InRange c → (n : ℕ) → n ≡ taskRefusal k → (n ≡ refusal.none → ⊥) → addingAnswer c k ≡ none n
-    adding-task v n e h = adding-refused n (adding-next v ∙ sym e) h
+  ranges-first : (full valid kept : Bool) → (cond full refusal.tasks (cond valid refusal.none refusal.range) ≡ refusal.none → ⊥)
+      → cond full refusal.tasks (cond valid (cond kept refusal.none refusal.common) refusal.range) ≡ cond full refusal.tasks (cond valid refusal.none refusal.range)
+  ranges-first true valid kept h = refl
+  ranges-first false true kept h = absurd (h refl)
+  ranges-first false false kept h = refl
 
-    pub adding-given : InRange c → taskRefusal k ≡ refusal.none → addingAnswer c k ≡ given c (added (tasksOf (c .table)) k)
+  ranges-passed : (full valid kept : Bool) → cond full refusal.tasks (cond valid refusal.none refusal.range) ≡ refusal.none
+      → (full ≡ false) × (cond full refusal.tasks (cond valid (cond kept refusal.none refusal.common) refusal.range) ≡ cond kept refusal.none refusal.common)
+  ranges-passed true valid kept e = absurd (omega (arith, e))
+  ranges-passed false true kept e = (refl, refl)
+  ranges-passed false false kept e = absurd (omega (arith, e))
+
+  pub adding-refused : (n : ℕ) → n ≡ addingRanges c k → (n ≡ refusal.none → ⊥) → addingAnswer c k ≡ none n
+  unfolding addingAnswer addingRefusal addingRanges
+  adding-refused n e h = edited-refused _ n c _ (ranges-first (leb most-tasks (c .table .count)) (validComponent c && validTask k) (isRight c) (λ z. h (e ∙ z)) ∙ sym e) h
+
+  module _ (e : addingRanges c k ≡ refusal.none) where
+    pub adding-room : c .table .count < most-tasks
+    unfolding addingRanges
+    adding-room = leb-false _ _ (ranges-passed (leb most-tasks (c .table .count)) (validComponent c && validTask k) true e .0)
+
+    adding-next : addingRefusal c k ≡ cond (isRight c) refusal.none refusal.common
+    unfolding addingRefusal addingRanges
+    adding-next = ranges-passed (leb most-tasks (c .table .count)) (validComponent c && validTask k) (isRight c) e .1
+
+    pub adding-wrong : isRight c ≡ false → addingAnswer c k ≡ none refusal.common
     unfolding addingAnswer
-    adding-given v e = edited-given _ c _ (adding-next v ∙ e)
+    adding-wrong w = edited-refused _ refusal.common c _ (adding-next ∙ rw w) (λ z. omega (arith, z))
 
--- ---- removing: the ranges, then the place
+    pub adding-given : Right c → addingAnswer c k ≡ given c (added (tasksOf (c .table)) k)
+    unfolding addingAnswer
+    adding-given r = edited-given _ c _ (adding-next ∙ rw (is-right c r))
+
+-- ---- removing: the ranges and the stored value, then the place
 module _ (c : Component) (at : ℕ) where
   pub removing-ranges : (n : ℕ) → n ≡ rangeRefusal c → (n ≡ refusal.none → ⊥) → removingAnswer c at ≡ none n
   unfolding removingAnswer removingRefusal
   removing-ranges n e h = edited-refused _ n c _ (refused-first c _ (λ z. h (e ∙ z)) ∙ sym e) h
 
-  removing-next : InRange c → removingRefusal c at ≡ cond (ltb at (c .table .count)) refusal.none refusal.place
-  unfolding removingRefusal
-  removing-next v = asked-next c _ v
+  pub removing-held : (n : ℕ) → n ≡ heldRefusal c → (n ≡ refusal.none → ⊥) → removingAnswer c at ≡ none n
+  unfolding removingAnswer removingRefusal heldRefusal
+  removing-held n e h = edited-refused _ n c _ (held-first c _ (λ z. h (e ∙ z)) ∙ sym e) h
 
-  pub removing-place : InRange c → c .table .count ≤ at → removingAnswer c at ≡ none refusal.place
-  unfolding removingAnswer
-  removing-place v h =
-      edited-refused _ refusal.place c _ (removing-next v ∙ rw (le-ltb _ _ h)) (λ e. omega (arith, e))
+  pub removing-taken : InRange c → Right c → removingAnswer c at ≡ removedAnswer c at
+  unfolding removingAnswer removingRefusal removedAnswer
+  removing-taken v r = ap (λ (n : ℕ). edited n c (removed (tasksOf (c .table)) at)) (asked-next c _ v ∙ rw (is-right c r))
 
-  pub removing-given : InRange c → at < c .table .count → removingAnswer c at ≡ given c (removed (tasksOf (c .table)) at)
-  unfolding removingAnswer
-  removing-given v h = edited-given _ c _ (removing-next v ∙ rw (lt-ltb _ _ h))
+  pub removed-none : c .table .count ≤ at → removedAnswer c at ≡ none refusal.place
+  unfolding removedAnswer
+  removed-none h = edited-refused _ refusal.place c _ (rw (le-ltb _ _ h)) (λ e. omega (arith, e))
+
+  pub removed-given : at < c .table .count → removedAnswer c at ≡ given c (removed (tasksOf (c .table)) at)
+  unfolding removedAnswer
+  removed-given h = edited-given _ c _ (rw (lt-ltb _ _ h))
+
+-- ---- making: the ranges
+pub making-refused : (n : ℕ) (p : Time) (q : Capacity) (d : Time) (t : Table) (r : ℕ) → r ≡ rangeRefusal (unmade n p q d t) → (r ≡ refusal.none → ⊥) → makingAnswer n p q d t ≡ none r
+unfolding makingAnswer
+making-refused n p q d t r e h = edited-refused _ r _ _ (sym e) h
+
+pub making-given : (n : ℕ) (p : Time) (q : Capacity) (d : Time) (t : Table) → rangeRefusal (unmade n p q d t) ≡ refusal.none → makingAnswer n p q d t ≡ given (unmade n p q d t) (tasksOf t)
+unfolding makingAnswer
+making-given n p q d t e = edited-given _ _ _ e

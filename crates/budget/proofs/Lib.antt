@@ -5,8 +5,10 @@ pub mod Valid
 pub mod Tests
 pub mod Answers
 pub mod CommonPeriodLaws
+pub mod CommonLaws
+pub mod EditRight
 pub mod Places
-pub mod Within
 pub mod Ranges
+pub mod Periods
 pub mod TableLaws
 pub mod Edits

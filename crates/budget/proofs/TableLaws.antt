@@ -4,13 +4,17 @@ use mathlib.Core.Path.{_≡_, sym, _∙_, ap}
 use mathlib.Core.List.{List, [], _∷_, _++_}
 use native.Mathlib.Omega.{arith}
 use lib.ListN.{length, replicate, length-append}
-use lib.Seq.{set-append-seam, append-snoc}
+use lib.Seq.{set-append-seam, append-snoc, take-append-seam}
 use borrow.Author.Tests.{lt-ltb}
 use Rattle.budget.specs.declared.task.Task.{Task}
 use Rattle.budget.specs.declared.task.Table.{Table}
 use Rattle.budget.specs.Limits.{most-tasks}
 use Rattle.budget.specs.Task.{tasksOf, tableOf, appended, noTask}
-use Rattle.budget.proofs.EditLaws.{tasks-of-table}
+
+-- a table that is returned reads back as its tasks
+pub tasks-of-table : (ks : List Task) → tasksOf (tableOf ks) ≡ ks
+unfolding tasksOf tableOf
+tasks-of-table ks = take-append-seam ks _
 
 -- of a table known to be returned for some tasks: they are its tasks, and their number is its count
 pub tasks-are : (t : Table) (ks : List Task) → t ≡ tableOf ks → tasksOf t ≡ ks

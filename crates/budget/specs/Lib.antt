@@ -1,9 +1,12 @@
+pub mod Common
 pub mod CommonPeriod
 pub mod Component
 pub mod Demand
 pub mod Edit
 pub mod Interface
 pub mod Limits
+pub mod Make
 pub mod Refusal
 pub mod Supply
 pub mod Task
+pub mod inner

@@ -67,3 +67,7 @@ place = 15
 -- a pair that breaks the rules of pairs, or a record that may not stand behind a pair and does
 abbrev pub pair : ℕ
 pair = 16
+
+-- a stored common period that is not the component's own
+abbrev pub common : ℕ
+common = 17

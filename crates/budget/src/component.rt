@@ -1,4 +1,7 @@
-// A component (RULES 2): its capacity, its interface, and the refusals of its ranges.
+// A component (RULES 2): its capacity, its interface, its stored common period, and the refusals of one that is handed in.
+use crate::common::Common;
+use crate::common::common_of;
+use crate::common::same_common;
 use crate::interface::Interface;
 use crate::interface::check_interface;
 use crate::quantity::Time;
@@ -8,7 +11,7 @@ use crate::task::Table;
 use crate::task::check_table;
 use crate::task::no_tasks;
 ghost use mathlib.Core.Path.{_≡_};
-ghost use Rattle.budget.specs.Component.{refused, interfaceOf, rangeRefusal};
+ghost use Rattle.budget.specs.Component.{refused, interfaceOf, rangeRefusal, isRight, heldRefusal};
 
 // The capacity of a component: stated in units, or asked for.
 pub enum Capacity {
@@ -16,16 +19,18 @@ pub enum Capacity {
     Asked,
 }
 
-// A component: its number, its interface with the capacity stated or asked, and its tasks.
+// A component: its number, its interface with the capacity stated or asked, its common period as it is stored, and its tasks.
 pub struct Component {
     pub number: u16,
     pub period: Time,
     pub capacity: Capacity,
     pub deadline: Time,
+    pub common: Common,
     pub table: Table,
 }
 
-// The stand-in for a component that can't be answered (RULES 11): number 0, the dedicated processor as its stated interface, no tasks.
+// The stand-in for a component that can't be answered (RULES 11): number 0, the dedicated processor as its stated interface, no tasks,
+// and so a common period of 1.
 pub fn refused() -> Component
     ensures { λ r. ⌜ r ≡ refused ⌝ }
 {
@@ -39,6 +44,7 @@ pub fn refused() -> Component
         period,
         capacity: Capacity::Stated(capacity),
         deadline,
+        common: Common::Within(period),
         table,
     }
 }
@@ -74,4 +80,28 @@ pub fn check_ranges(component: Component) -> u16
         return refused;
     }
     check_interface(interface_of(component))
+}
+
+// Whether the stored common period is the component's own: the true one is worked out for it.
+pub fn is_right(component: Component) -> bool
+    ensures { λ r. ⌜ r ≡ isRight component ⌝ }
+{
+    let common = component.common;
+    let table = component.table;
+    let right = common_of(component.period, table);
+    same_common(common, right)
+}
+
+// The refusals of a component that is handed in, before anything is asked of it: 6, 9, then 17 for a stored common period that is not its own.
+pub fn check_held(component: Component) -> u16
+    ensures { λ r. ⌜ r ≡ heldRefusal component ⌝ }
+{
+    let refused = check_ranges(component);
+    if refused != refusal::NONE {
+        return refused;
+    }
+    if is_right(component) {
+        return refusal::NONE;
+    }
+    refusal::COMMON
 }

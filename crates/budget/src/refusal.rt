@@ -32,3 +32,5 @@ pub const SHEET: u16 = 14;
 pub const PLACE: u16 = 15;
 // A pair that breaks the rules of pairs, or a record that may not stand behind a pair and does.
 pub const PAIR: u16 = 16;
+// A stored common period that is not the component's own.
+pub const COMMON: u16 = 17;

@@ -1,5 +1,6 @@
 // What a call gives: tasks, tables, interfaces and components, each with the place in the line after it.
 use crate::words;
+use budget::common::Common;
 use budget::component::Capacity;
 use budget::component::Component;
 use budget::interface::Interface;
@@ -26,6 +27,20 @@ pub struct GivenInterface {
 
 pub struct GivenCapacity {
     pub value: Capacity,
+    pub at: usize,
+}
+
+pub struct GivenCommon {
+    pub value: Common,
+    pub at: usize,
+}
+
+// The numbers that a component begins with, before its stored common period and its table.
+pub struct GivenHead {
+    pub number: u16,
+    pub period: Time,
+    pub capacity: Capacity,
+    pub deadline: Time,
     pub at: usize,
 }
 
@@ -103,17 +118,9 @@ pub fn read_table(line: &[u8], start: usize) -> GivenTable {
     }
 }
 
-// Whether the word at a place begins as `stated` does.
-fn is_stated(line: &[u8], start: usize) -> bool {
-    if start < line.len() {
-        return line[start] == b's';
-    }
-    false
-}
-
 fn read_capacity(line: &[u8], start: usize) -> GivenCapacity {
     let at = words::after_word(line, start);
-    if is_stated(line, start) {
+    if words::begins_with(line, start, b's') {
         let units = words::read_long(line, at);
         return GivenCapacity {
             value: Capacity::Stated(Units(units.value)),
@@ -126,22 +133,54 @@ fn read_capacity(line: &[u8], start: usize) -> GivenCapacity {
     }
 }
 
-pub fn read_component(line: &[u8], start: usize) -> GivenComponent {
+pub fn read_head(line: &[u8], start: usize) -> GivenHead {
     let number = words::read_number(line, start);
     let capacity = read_capacity(line, number.at);
     let period = words::read_long(line, capacity.at);
     let deadline = words::read_long(line, period.at);
-    let table = read_table(line, deadline.at);
     let stated = capacity.value;
-    let tasks = table.value;
+    GivenHead {
+        number: (number.value % 65536) as u16,
+        period: Time(period.value),
+        capacity: stated,
+        deadline: Time(deadline.value),
+        at: deadline.at,
+    }
+}
+
+// A stored common period: a number, also one that no component may store, or `above` for the mark.
+fn read_common(line: &[u8], start: usize) -> GivenCommon {
+    if words::begins_with(line, start, b'a') {
+        return GivenCommon {
+            value: Common::Above,
+            at: words::after_word(line, start),
+        };
+    }
+    let length = words::read_long(line, start);
+    GivenCommon {
+        value: Common::Within(Time(length.value)),
+        at: length.at,
+    }
+}
+
+pub fn read_component(line: &[u8], start: usize) -> GivenComponent {
+    let head = read_head(line, start);
+    let period = head.period;
+    let capacity = head.capacity;
+    let deadline = head.deadline;
+    let stored = read_common(line, head.at);
+    let common = stored.value;
+    let given = read_table(line, stored.at);
+    let table = given.value;
     GivenComponent {
         value: Component {
-            number: (number.value % 65536) as u16,
-            period: Time(period.value),
-            capacity: stated,
-            deadline: Time(deadline.value),
-            table: tasks,
+            number: head.number,
+            period,
+            capacity,
+            deadline,
+            common,
+            table,
         },
-        at: table.at,
+        at: given.at,
     }
 }

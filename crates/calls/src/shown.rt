@@ -1,7 +1,9 @@
 // What an answer shows of a component.
 use crate::print;
+use budget::common::Common;
 use budget::component::Capacity;
 use budget::component::Component;
+use budget::edit::Edited;
 use budget::task::Table;
 use budget::task::Task;
 
@@ -60,6 +62,13 @@ fn put_capacity(out: &mut [u8], start: usize, capacity: Capacity) -> usize {
     }
 }
 
+fn put_common(out: &mut [u8], start: usize, common: Common) -> usize {
+    match common {
+        Common::Within(length) => print::put_long(out, start, length.0),
+        Common::Above => print::put_text(out, start, b" above"),
+    }
+}
+
 // Puts `zero` if every task place from the count on is (0, 0, 0, 0), else `filled`.
 fn put_rest(out: &mut [u8], start: usize, table: Table) -> usize {
     if rest_is_zero(table) {
@@ -71,11 +80,20 @@ fn put_rest(out: &mut [u8], start: usize, table: Table) -> usize {
 // A component as it is given in a call, and whether the rest of its task places is zero.
 pub fn put_component(out: &mut [u8], start: usize, component: Component) -> usize {
     let capacity = component.capacity;
+    let common = component.common;
     let table = component.table;
     let at = print::put_number(out, start, component.number as u64);
     let at = put_capacity(out, at, capacity);
     let at = print::put_long(out, at, component.period.0);
     let at = print::put_long(out, at, component.deadline.0);
+    let at = put_common(out, at, common);
     let at = put_table(out, at, table);
     put_rest(out, at, table)
+}
+
+// The answer of an edit.
+pub fn put_edited(out: &mut [u8], answered: Edited) -> usize {
+    let component = answered.component;
+    let at = print::put_status(out, answered.refusal);
+    put_component(out, at, component)
 }

@@ -48,6 +48,14 @@ pub fn is_word(line: &[u8], word: &[u8]) -> bool {
     true
 }
 
+// Whether the word at a place begins with a letter: enough where a call takes one of two words there.
+pub fn begins_with(line: &[u8], start: usize, letter: u8) -> bool {
+    if start < line.len() {
+        return line[start] == letter;
+    }
+    false
+}
+
 // The number with one digit more, or the largest where that is too large.
 fn with_digit(value: u64, byte: u8) -> u64 {
     if value > 1844674407370955161 {

@@ -1,5 +1,6 @@
 // Calls on tasks, interfaces and components.
 use budget::check;
+use budget::common;
 use budget::common_period;
 use budget::demand;
 use budget::interface;
@@ -41,11 +42,7 @@ fn dedicated(out: &mut [u8]) -> usize {
 fn common_divisor(line: &[u8], at: usize, out: &mut [u8]) -> usize {
     let first = words::read_long(line, at);
     let second = words::read_long(line, first.at);
-    print::put_answer(
-        out,
-        0,
-        common_period::common_divisor(first.value, second.value),
-    )
+    print::put_answer(out, 0, common::common_divisor(first.value, second.value))
 }
 
 fn common_period(line: &[u8], at: usize, out: &mut [u8]) -> usize {

@@ -1,5 +1,6 @@
 // The calls on sheets (docs/CALLS.md), each answered by a function of its own.
 mod sheets;
+pub mod shown;
 
 use calls::rows;
 use calls::words;

@@ -1,8 +1,8 @@
 // Calls on sheets: those that are given one, and those that write into a buffer, which is as much of the lent one as the call
 // says, filled with a5.
+use crate::shown;
 use calls::given;
 use calls::print;
-use calls::shown;
 use calls::words;
 use sheet::check;
 use sheet::part;
@@ -10,17 +10,8 @@ use transfer::pair;
 use transfer::read;
 use transfer::write;
 
-// Puts `ok`, or `refused` with its number and place.
-fn put_fault(out: &mut [u8], refusal: u16, place: usize) -> usize {
-    let at = print::put_status(out, refusal);
-    if refusal == 0 {
-        return at;
-    }
-    print::put_number(out, at, place as u64)
-}
-
 fn put_checked(out: &mut [u8], answered: check::Checked) -> usize {
-    let at = put_fault(out, answered.refusal, answered.place);
+    let at = shown::put_fault(out, answered.refusal, answered.place);
     print::put_number(out, at, answered.count as u64)
 }
 
@@ -28,24 +19,18 @@ fn part(line: &[u8], sheet: &[u8], start: usize, out: &mut [u8]) -> usize {
     let given = words::read_number(line, start);
     let place = given.value as usize;
     let answered = part::check_part(sheet, place);
-    let at = put_fault(out, answered.refusal, answered.place);
+    let at = shown::put_fault(out, answered.refusal, answered.place);
     print::put_row(out, at, part::component_part(sheet, place))
-}
-
-fn put_reading(out: &mut [u8], answered: read::Reading) -> usize {
-    let component = answered.component;
-    let at = put_fault(out, answered.refusal, answered.place);
-    shown::put_component(out, at, component)
 }
 
 fn read(line: &[u8], sheet: &[u8], start: usize, out: &mut [u8]) -> usize {
     let place = words::read_number(line, start);
-    put_reading(out, read::read_component(sheet, place.value as usize))
+    shown::put_reading(out, read::read_component(sheet, place.value as usize))
 }
 
 fn put_pair(out: &mut [u8], answered: pair::PairReading) -> usize {
     let found = answered.pair;
-    let at = put_fault(out, answered.refusal, answered.place);
+    let at = shown::put_fault(out, answered.refusal, answered.place);
     let at = print::put_number(out, at, found.child as u64);
     print::put_number(out, at, found.parent as u64)
 }

@@ -20,6 +20,10 @@ fn answer_text(line: &[u8], out: &mut [u8]) -> usize {
     if at > 0 {
         return at;
     }
+    let at = calls_edit::answer(line, out);
+    if at > 0 {
+        return at;
+    }
     let at = calls_tree::answer(line, out);
     if at > 0 {
         return at;

@@ -2,6 +2,7 @@
 use crate::answer::Smallest;
 use crate::steps::columns_of;
 use crate::steps::pass;
+use budget::common_period::CommonPeriod;
 use budget::common_period::common_period;
 use budget::component::Component;
 use budget::interface::Interface;
@@ -11,6 +12,7 @@ use budget::refusal;
 use budget::supply::supply;
 use budget::task::Table;
 ghost use mathlib.Core.Path.{_≡_};
+ghost use Rattle.budget.specs.Component.{commonPeriodAnswer};
 ghost use Rattle.budget.specs.Interface.{interface};
 ghost use Rattle.budget.specs.Supply as Supply;
 ghost use Rattle.budget.specs.Task.{tasksOf};
@@ -81,11 +83,11 @@ pub(crate) fn least_capacity(table: Table, period: Time, deadline: Time, length:
     capacity
 }
 
-// The smallest capacity from 0 to the deadline that is accepted for the component's period, deadline and tasks, whatever capacity it states.
-pub fn smallest_capacity(component: Component) -> Smallest
+// The smallest capacity for a component whose common period was asked for.
+pub(crate) fn capacity_over(component: Component, whole: CommonPeriod) -> Smallest
+    requires { ⌜ whole ≡ commonPeriodAnswer component ⌝ }
     ensures { λ r. ⌜ r ≡ capacityAnswer component ⌝ }
 {
-    let whole = common_period(component);
     let refused = whole.refusal;
     if refused != refusal::NONE {
         return Smallest::Refused(refused);
@@ -98,4 +100,11 @@ pub fn smallest_capacity(component: Component) -> Smallest
         return Smallest::Found(Units(capacity));
     }
     Smallest::None
+}
+
+// The smallest capacity from 0 to the deadline that is accepted for the component's period, deadline and tasks, whatever capacity it states.
+pub fn smallest_capacity(component: Component) -> Smallest
+    ensures { λ r. ⌜ r ≡ capacityAnswer component ⌝ }
+{
+    capacity_over(component, common_period(component))
 }

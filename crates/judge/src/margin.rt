@@ -3,6 +3,7 @@ use crate::answer::Margined;
 use crate::capacity::least_capacity;
 use crate::steps::columns_of;
 use crate::steps::pass;
+use budget::common_period::CommonPeriod;
 use budget::common_period::common_period;
 use budget::component::Capacity;
 use budget::component::Component;
@@ -16,7 +17,7 @@ use budget::task::Table;
 ghost use mathlib.Core.Path.{_≡_};
 ghost use Prim.Native.Nat.{_*_, _≤_};
 ghost use lib.IntN.{subℕ};
-ghost use Rattle.budget.specs.Component.{interfaceAt, commonPeriodOf};
+ghost use Rattle.budget.specs.Component.{interfaceAt, commonPeriodAnswer, commonPeriodOf};
 ghost use Rattle.budget.specs.Limits.{limit};
 ghost use Rattle.budget.specs.Task.{tasksOf};
 ghost use Rattle.judge.specs.Margin.{marginAnswer, marginOn, marginedAt, tightAt, tightInstant, tried};
@@ -117,11 +118,11 @@ fn measured_asked(component: Component, length: u32) -> Margined
     measured(table, interface, length)
 }
 
-// The margin of a component at its capacity stated or found.
-pub fn margin(component: Component) -> Margined
+// The margin of a component whose common period was asked for.
+pub(crate) fn margin_over(component: Component, whole: CommonPeriod) -> Margined
+    requires { ⌜ whole ≡ commonPeriodAnswer component ⌝ }
     ensures { λ r. ⌜ r ≡ marginAnswer component ⌝ }
 {
-    let whole = common_period(component);
     let refused = whole.refusal;
     if refused != refusal::NONE {
         return Margined::Refused(refused);
@@ -133,4 +134,11 @@ pub fn margin(component: Component) -> Margined
         Capacity::Stated(_) => measured(table, interface_of(component), length),
         Capacity::Asked => measured_asked(component, length),
     }
+}
+
+// The margin of a component at its capacity stated or found.
+pub fn margin(component: Component) -> Margined
+    ensures { λ r. ⌜ r ≡ marginAnswer component ⌝ }
+{
+    margin_over(component, common_period(component))
 }

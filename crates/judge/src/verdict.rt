@@ -4,6 +4,7 @@ use crate::answer::Verdict;
 use crate::capacity::least_capacity;
 use crate::steps::columns_of;
 use crate::steps::pass;
+use budget::common_period::CommonPeriod;
 use budget::common_period::common_period;
 use budget::component::Capacity;
 use budget::component::Component;
@@ -14,7 +15,7 @@ use budget::refusal;
 use budget::supply::supply;
 use budget::task::Table;
 ghost use mathlib.Core.Path.{_≡_};
-ghost use Rattle.budget.specs.Component.{interfaceAt, commonPeriodOf};
+ghost use Rattle.budget.specs.Component.{interfaceAt, commonPeriodAnswer, commonPeriodOf};
 ghost use Rattle.budget.specs.Task.{tasksOf};
 ghost use Rattle.judge.specs.Judged.{judgedAt, verdictAnswer};
 ghost use Rattle.judge.specs.Verdict.{firstShort};
@@ -85,11 +86,11 @@ fn on_asked(component: Component, length: u32) -> Judged
     Judged::Answered(Units(0), Verdict::None)
 }
 
-// The verdict on a component, with the capacity stated or found.
-pub fn verdict(component: Component) -> Judged
+// The verdict on a component whose common period was asked for.
+pub(crate) fn verdict_over(component: Component, whole: CommonPeriod) -> Judged
+    requires { ⌜ whole ≡ commonPeriodAnswer component ⌝ }
     ensures { λ r. ⌜ r ≡ verdictAnswer component ⌝ }
 {
-    let whole = common_period(component);
     let refused = whole.refusal;
     if refused != refusal::NONE {
         return Judged::Refused(refused);
@@ -100,4 +101,11 @@ pub fn verdict(component: Component) -> Judged
         Capacity::Stated(units) => on_stated(component, units, length),
         Capacity::Asked => on_asked(component, length),
     }
+}
+
+// The verdict on a component, with the capacity stated or found.
+pub fn verdict(component: Component) -> Judged
+    ensures { λ r. ⌜ r ≡ verdictAnswer component ⌝ }
+{
+    verdict_over(component, common_period(component))
 }

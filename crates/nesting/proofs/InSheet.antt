@@ -10,7 +10,7 @@ use Rattle.budget.specs.declared.task.Task.{Task}
 use Rattle.budget.specs.Component.{interfaceAt, withTasks}
 use Rattle.budget.specs.Refusal as refusal
 use Rattle.budget.specs.Task.{tasksOf}
-use Rattle.budget.proofs.EditLaws.{tasks-of-table}
+use Rattle.budget.proofs.TableLaws.{tasks-of-table}
 use Rattle.judge.specs.declared.answer.Judged.{Judged}
 use Rattle.judge.specs.declared.answer.Judged.the-variants.{Answered}
 use Rattle.judge.specs.declared.answer.Margined.{Margined}

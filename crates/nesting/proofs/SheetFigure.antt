@@ -10,8 +10,9 @@ use borrow.Author.Tests.{ltb-true}
 use Rattle.budget.specs.declared.component.Component.{Component}
 use Rattle.budget.specs.declared.interface.Interface.{Interface}
 use Rattle.budget.specs.declared.task.Task.{Task}
+use Rattle.budget.specs.Common.{capped, commonOf, grown, grownBy, sameCommon}
 use Rattle.budget.specs.CommonPeriod.{commonDivisor, commonMultiple, commonPeriod, euclid}
-use Rattle.budget.specs.Component.{commonPeriodOf, componentRefusal, interfaceAt, interfaceOf, rangeRefusal, refused, validComponent, withTasks}
+use Rattle.budget.specs.Component.{commonPeriodOf, componentRefusal, interfaceAt, interfaceOf, isRight, rangeRefusal, refused, validComponent, withTasks}
 use Rattle.budget.specs.Demand.{demand, jobsBy}
 use Rattle.budget.specs.Interface.{dedicated, interface, validInterface}
 use Rattle.budget.specs.Supply.{supply, wholePeriods}
@@ -65,7 +66,7 @@ bytes = all-bytes Figure.sheet refl
 rising : Rising 0 Figure.components
 unfolding rangeRefusal validComponent interfaceOf validInterface validTasks validTask tasksOf tableOf
 rising =
-    (lit≤ tt, record { ranges = refl; number = lit< tt; places = refl }, (lit≤ tt, record { ranges = refl; number = lit< tt; places = refl }, tt))
+    (lit≤ tt, record { ranges = refl; common = refl; number = lit< tt; places = refl }, (lit≤ tt, record { ranges = refl; common = refl; number = lit< tt; places = refl }, tt))
 
 nested : Nested (entriesOf Figure.components) [] Figure.pairs
 unfolding pairRefusal pairs rises registered ownTasks named entriesOf tasksOf tableOf
@@ -107,11 +108,11 @@ abbrev offers : List Offer
 offers = offering child 2 ∷ []
 
 child-answered : outcomeOf (loadOn Figure.pairs [] child) ≡ accepted 2 8
-unfolding outcomeOf loadOn allOffered children workload tasksFrom withTasks tableOf tasksOf verdictAnswer componentRefusal validComponent interfaceOf validInterface validTasks validTask commonPeriodOf commonPeriod commonMultiple commonDivisor euclid judgedAt verdictOn accepts firstShort smallest isShort supply wholePeriods demand jobsBy marginAnswer marginedAt marginOn tightInstant tightAt tried
+unfolding outcomeOf loadOn allOffered children workload tasksFrom withTasks tableOf tasksOf verdictAnswer componentRefusal validComponent interfaceOf validInterface validTasks validTask isRight sameCommon commonOf grownBy grown capped commonPeriodOf commonPeriod commonMultiple commonDivisor euclid judgedAt verdictOn accepts firstShort smallest isShort supply wholePeriods demand jobsBy marginAnswer marginedAt marginOn tightInstant tightAt tried
 child-answered = refl
 
 parent-answered : outcomeOf (loadOn Figure.pairs offers parent) ≡ accepted 1 4
-unfolding outcomeOf loadOn allOffered children offerIn workload tasksFrom withTasks tableOf tasksOf verdictAnswer componentRefusal validComponent interfaceOf validInterface validTasks validTask commonPeriodOf commonPeriod commonMultiple commonDivisor euclid judgedAt verdictOn accepts firstShort smallest isShort supply wholePeriods demand jobsBy marginAnswer marginedAt marginOn tightInstant tightAt tried
+unfolding outcomeOf loadOn allOffered children offerIn workload tasksFrom withTasks tableOf tasksOf verdictAnswer componentRefusal validComponent interfaceOf validInterface validTasks validTask isRight sameCommon commonOf grownBy grown capped commonPeriodOf commonPeriod commonMultiple commonDivisor euclid judgedAt verdictOn accepts firstShort smallest isShort supply wholePeriods demand jobsBy marginAnswer marginedAt marginOn tightInstant tightAt tried
 parent-answered = refl
 
 child-outcome : outcomeAt Figure.sheet 0 ≡ accepted 2 8

@@ -66,7 +66,7 @@ pub record AcceptedAt (s : List ℕ) (k : ℕ) : Type 0 where
   pub margin : Margined
   pub outcome : outcomeAt s k ≡ Outcome.Judged (Answered capacity Verdict.Accepted) margin
 
--- the component at a place with its tree's workload as its tasks
+-- the component at a place with its tree's workload as its tasks, and the common period of all of them
 abbrev pub loadedAt : List ℕ → ℕ → Component
 loadedAt s k = withTasks (reading s k .component) (workload (treeOf s) k)
 

@@ -6,6 +6,7 @@ use mathlib.Core.Path.{_≡_}
 use Rattle.budget.specs.declared.component.Capacity.the-variants.{Stated}
 use Rattle.budget.specs.declared.component.Component.{Component}
 use Rattle.budget.specs.declared.task.Task.{Task}
+use Rattle.budget.specs.Common.{commonOf}
 use Rattle.budget.specs.Interface.{dedicated, interface}
 use Rattle.budget.specs.Refusal as refusal
 use Rattle.budget.specs.Task.{tableOf}
@@ -16,12 +17,20 @@ use Rattle.transfer.specs.RoundTrip.{sheetBytes}
 use Rattle.nesting.specs.InSheet.{AcceptedAt, treeOf}
 use Rattle.nesting.specs.Tree.{asTask, workload}
 
--- the task (T, C, D), and a component with a stated interface
+-- the task (T, C, D), and a component with a stated interface that stores the right common period
 abbrev task : ℕ → ℕ → ℕ → Task
 task t c d = asTask (interface t c d)
 
 abbrev stated : ℕ → ℕ → ℕ → ℕ → List Task → Component
-stated n p q d ks = record { number = n; period = record { 0 = p }; capacity = Stated (record { 0 = q }); deadline = record { 0 = d }; table = tableOf ks }
+stated n p q d ks =
+    record {
+      number = n;
+      period = record { 0 = p };
+      capacity = Stated (record { 0 = q });
+      deadline = record { 0 = d };
+      common = commonOf p ks;
+      table = tableOf ks;
+    }
 
 abbrev pub components : List Component
 components = stated 1 6 2 4 (task 8 2 8 ∷ []) ∷ stated 2 1 1 1 (task 4 2 4 ∷ []) ∷ []

@@ -5,6 +5,7 @@ use native.Mathlib.Omega.{arith}
 use lib.Dec.{lit<, lit≤}
 use lib.IntN.{pos, negsuc}
 use lib.ListN.{getD}
+use Rattle.budget.specs.Common.{commonOf, grownBy, grown, capped}
 use Rattle.budget.specs.CommonPeriod.{commonPeriod, commonMultiple, commonDivisor, euclid}
 use Rattle.budget.specs.Demand.{demand, jobsBy}
 use Rattle.budget.specs.Interface.{interface}
@@ -55,6 +56,6 @@ no-miss u h m = at (m .place) (m .inside) (m .due) (m .late)
     at (suc p) l due some = absurd (omega arith)
 
 pub figures-hold : Hold figures
-unfolding supply wholePeriods demand jobsBy commonPeriod commonMultiple commonDivisor euclid verdictOn accepts firstShort isShort smallest smallestCapacity marginOn tightInstant tightAt tried waits leastFirst headFirst nextBy serve slotBy leftBy deadline taskOf validTask validTasks validJob readyInTime beforeAll legalArrival servedIn servedBefore
+unfolding supply wholePeriods demand jobsBy commonOf grownBy grown capped commonPeriod commonMultiple commonDivisor euclid verdictOn accepts firstShort isShort smallest smallestCapacity marginOn tightInstant tightAt tried waits leastFirst headFirst nextBy serve slotBy leftBy deadline taskOf validTask validTasks validJob readyInTime beforeAll legalArrival servedIn servedBefore
 figures-hold =
-    (refl, (refl, (refl, (refl, (refl, (refl, (refl, (refl, ((refl, refl, refl), ((refl, refl), ((refl, refl), ((legal, not-at-start, not-at-three), ((miss, refl), ((refl, refl), ((refl, refl), ((refl, refl), (refl, (refl, (refl, ((refl, late-miss), ((refl, refl), ((refl, no-miss), (refl, tt)))))))))))))))))))))))
+    (refl, (refl, (refl, (refl, (refl, (refl, (refl, (refl, ((refl, refl, refl), ((refl, refl), ((refl, refl), ((legal, not-at-start, not-at-three), ((miss, refl), ((refl, refl), ((refl, refl), ((refl, refl), (refl, (refl, (refl, ((refl, late-miss), ((refl, refl), ((refl, no-miss), (refl, (refl, ((refl, refl), tt)))))))))))))))))))))))))

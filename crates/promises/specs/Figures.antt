@@ -5,10 +5,13 @@ use mathlib.Core.List.{List, [], _∷_, map}
 use mathlib.Core.Path.{_≡_}
 use mathlib.Core.Bool.{true, false}
 use lib.IntN.{ℤ, pos, negsuc}
+use Rattle.budget.specs.declared.common.Common.the-variants.{Within, Above}
 use Rattle.budget.specs.declared.task.Task.{Task}
+use Rattle.budget.specs.Common.{commonOf}
 use Rattle.budget.specs.CommonPeriod.{commonPeriod}
 use Rattle.budget.specs.Demand.{demand}
 use Rattle.budget.specs.Interface.{interface, dedicated}
+use Rattle.budget.specs.Limits.{limit}
 use Rattle.budget.specs.Supply.{supply}
 use Rattle.budget.specs.Task.{validTasks}
 use Rattle.judge.specs.declared.answer.Margined.{Margined}
@@ -68,6 +71,13 @@ margin j = marginOn (late j) (interface 6 2 4) (at j)
 abbrev least : ℕ → ℕ
 least j = smallestCapacity (late j) 6 4 (at j)
 
+-- the tasks of P17
+abbrev pub eightAndNine : List Task
+eightAndNine = task 8 2 8 ∷ task 9 1 9 ∷ []
+
+abbrev pub longest : List Task
+longest = task limit 1 limit ∷ []
+
 -- a row: the figure's number and what it says; `negsuc 0` is −1
 pub record Figure : Type 1 where
   pub number : ℕ
@@ -101,6 +111,8 @@ figures =
     ∷ p 16 ((servedBefore (late 1) (job (negsuc 0) 0) trace 7 ≡ 1) × (leftAt (late 1) (job (negsuc 0) 0) trace 7 ≡ 1 ∷ []))
     ∷ p 16 ((legalArrival (late 1) (job (pos 0) 1) ≡ true) × NoMiss (late 1) (job (pos 0) 1) trace)
     ∷ p 16 (legalArrival (late 1) (job (negsuc 1) 0) ≡ false)
+    ∷ p 17 (commonOf 6 eightAndNine ≡ Within (record { 0 = 72 }))
+    ∷ p 17 ((commonOf 1 longest ≡ Within (record { 0 = limit })) × (commonOf 3 longest ≡ Above))
     ∷ []
 
 -- every row of the table holds

@@ -1,19 +1,22 @@
--- What the judge stands on (RULES 2, 3, 4, 6, 11): the common period, demand and supply, the edits, and components that
+-- What the judge stands on (RULES 2, 3, 4, 6, 11): the common period and the value that is stored for it, demand and supply, the edits, and components that
 -- count as the same.
 use Prim.Native.Nat.{ℕ, _+_, _≤_, _<_, _∣_}
 use mathlib.Core.Bool.{true}
 use mathlib.Core.List.{List}
 use mathlib.Core.Path.{_≡_}
 use lib.ListN.{length, getD}
+use Rattle.budget.specs.declared.common.Common.{Common}
+use Rattle.budget.specs.declared.common.Common.the-variants.{Within, Above}
 use Rattle.budget.specs.declared.component.Component.{Component}
 use Rattle.budget.specs.declared.interface.Interface.{Interface}
 use Rattle.budget.specs.declared.task.Task.{Task}
+use Rattle.budget.specs.Common.{commonOf}
 use Rattle.budget.specs.CommonPeriod.{commonPeriod}
-use Rattle.budget.specs.Component.{Same, commonPeriodAnswer, componentRefusal, withTasks}
+use Rattle.budget.specs.Component.{Right, Same, commonPeriodAnswer, componentRefusal, heldRefusal, rangeRefusal, withTasks}
 use Rattle.budget.specs.Demand.{demand, demandAnswer}
 use Rattle.budget.specs.Edit.{addingAnswer, addingRefusal, removingAnswer}
 use Rattle.budget.specs.Interface.{Π, validInterface}
-use Rattle.budget.specs.Limits.{most-tasks}
+use Rattle.budget.specs.Limits.{limit, most-tasks}
 use Rattle.budget.specs.Refusal as refusal
 use Rattle.budget.specs.Supply.{supply}
 use Rattle.budget.specs.Task.{T, noTask, tasksOf, validTasks}
@@ -37,6 +40,22 @@ abbrev pub CommonPeriodLeast : Type 0
 CommonPeriodLeast =
     (c : Component) → componentRefusal c ≡ refusal.none → LeastCommonMultiple (c .period .0) (tasksOf (c .table)) (commonPeriodAnswer c .length .0)
 
+-- what a stored value has to say of the period p and the tasks: a number, that it is the least common multiple and within the limit; the mark, that every
+-- common multiple is above the limit
+abbrev pub StoredSays : ℕ → List Task → Common → Type 0
+StoredSays p ks (Within l) = LeastCommonMultiple p ks (l .0) × (l .0 ≤ limit)
+StoredSays p ks Above = (m : ℕ) → 1 ≤ m → CommonMultiple p ks m → limit < m
+
+-- a right stored value says it of a component in its ranges
+abbrev pub StoredMeans : Type 0
+StoredMeans = (c : Component) → rangeRefusal c ≡ refusal.none → Right c → StoredSays (c .period .0) (tasksOf (c .table)) (c .common)
+
+-- and only one value says it
+abbrev pub StoredAlone : Type 0
+StoredAlone =
+    (c : Component) → rangeRefusal c ≡ refusal.none
+    → (s : Common) → StoredSays (c .period .0) (tasksOf (c .table)) s → s ≡ commonOf (c .period .0) (tasksOf (c .table))
+
 -- a stretch of L brings the demand at L
 abbrev pub DemandRepeats : Type 0
 DemandRepeats =
@@ -56,8 +75,9 @@ AddThenRemove =
     → (removingAnswer (addingAnswer c k .component) (c .table .count) ≡ record { refusal = refusal.none; component = withTasks c (tasksOf (c .table)) })
     × Same (withTasks c (tasksOf (c .table))) c
 
--- what each operation on a component answers
+-- what each operation on a component answers; `held` is what writing refuses it for, before it asks for room
 pub record AnsweredAlike (a b : Component) : Type 0 where
+  pub held : heldRefusal a ≡ heldRefusal b
   pub common-period : commonPeriodAnswer a ≡ commonPeriodAnswer b
   pub demand : (t : ℕ) → demandAnswer (a .table) t ≡ demandAnswer (b .table) t
   pub adding : (k : Task) → addingAnswer a k ≡ addingAnswer b k

@@ -13,3 +13,4 @@ pub mod PairTaking
 pub mod PairReads
 pub mod ReadAt
 pub mod ReplyLaws
+pub mod ReadRight

@@ -10,7 +10,8 @@ use borrow.Author.Tests.{le-leb, lt-ltb, le-ltb}
 use Rattle.budget.specs.declared.component.Component.{Component}
 use Rattle.budget.specs.Component.{Same, refused, withTasks}
 use Rattle.budget.specs.Task.{tasksOf, tableOf}
-use Rattle.budget.proofs.EditLaws.{tasks-of-table}
+use Rattle.budget.proofs.Ranges.{held-in, in-range}
+use Rattle.budget.proofs.TableLaws.{tasks-of-table}
 use Rattle.record.specs.declared.layout.Pair.{Pair}
 use Rattle.record.specs.Layout.{pairBytes, endBytes}
 use Rattle.sheet.specs.Check.{check, pairsOf}
@@ -40,7 +41,7 @@ after buffer at bytes = page (sets buffer at bytes) (at + length bytes)
 put-is : (b : List ℕ) (at : ℕ) (c : Component) → Sound c → at + length (componentBytes c) ≤ length b → put (page b at) c ≡ after b at (componentBytes c)
 unfolding put writingRefusal roomRefusal written buffered stored
 put-is b at c sound h =
-    rw (sound .ranges, le-leb (at + length (componentBytes c)) (length b) h)
+    rw (held-in c (in-range c (sound .ranges)) (sound .common), le-leb (at + length (componentBytes c)) (length b) h)
     (ap (λ (l : List ℕ). page l (at + length (componentBytes c))) (sym (sets-eq (componentBytes c) b at h)))
 
 pair-is : (b : List ℕ) (at : ℕ) (p : Pair) → p .child < p .parent → at + length (pairBytes p) ≤ length b → putPair (page b at) p ≡ after b at (pairBytes p)
@@ -107,7 +108,7 @@ write-all cs ps v b h =
 same-returned : (c : Component) → Sound c → Same (returned c) c
 unfolding withTasks tableOf
 same-returned c sound =
-    record { number = refl; period = refl; capacity = refl; deadline = refl; count = tasks-full c sound; tasks = tasks-of-table (tasksOf (c .table)) }
+    record { number = refl; period = refl; capacity = refl; deadline = refl; common = sym (sound .common); count = tasks-full c sound; tasks = tasks-of-table (tasksOf (c .table)) }
 
 read-back : (cs : List Component) (ps : List Pair) → Fitting cs ps → ReadBack (sheetBytes cs ps) cs ps
 read-back cs ps v =

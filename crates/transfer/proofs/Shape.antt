@@ -14,9 +14,10 @@ use Rattle.budget.specs.Component.{unitsOf, interfaceOf, withTasks}
 use Rattle.budget.specs.Interface.{interface, validInterface, interfaceRefusal}
 use Rattle.budget.specs.Task.{J, validTask, validTasks, taskRefusal, tasksOf, tableOf, noTask}
 use Rattle.budget.proofs.Answers.{passed}
-use Rattle.budget.proofs.EditLaws.{tasks-of-table}
+use Rattle.budget.proofs.TableLaws.{tasks-of-table}
 use Rattle.budget.proofs.Ranges.{range-in}
 use Rattle.budget.proofs.Valid.{and-true}
+use Rattle.transfer.proofs.ReadRight.{head-right}
 use Rattle.sheet.specs.declared.judging.State.{State}
 use Rattle.record.specs.declared.layout.Head.{Head}
 use Rattle.record.specs.declared.layout.Record.{Record}
@@ -128,6 +129,7 @@ sound-head h ks n r few v =
       ranges =
           range-in (withHead h ks)
           (record { count = few; interface = passed (validInterface (interfaceOf (withHead h ks))) r; tasks = ap validTasks (tasks-of-table ks) ∙ v });
+      common = head-right h ks;
       number = n;
       places = length-append ks (replicate (64 - length ks) noTask) ∙ (ap (λ (x : ℕ). length ks + x) (length-replicate (64 - length ks) noTask) ∙ omega arith);
     }

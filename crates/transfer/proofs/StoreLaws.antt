@@ -13,7 +13,7 @@ use Rattle.budget.specs.declared.component.Capacity.the-variants.{Stated, Asked
 use Rattle.budget.specs.declared.component.Component.{Component}
 use Rattle.budget.specs.declared.task.Table.{Table}
 use Rattle.budget.specs.declared.task.Task.{Task}
-use Rattle.budget.specs.Component.{rangeRefusal}
+use Rattle.budget.specs.Component.{heldRefusal}
 use Rattle.budget.specs.Task.{J, noTask, tasksOf}
 use Rattle.budget.proofs.Places.{from-place, from-end}
 use Rattle.record.specs.declared.layout.Pair.{Pair}
@@ -130,15 +130,15 @@ unfolding componentBytes
 component-length c = rw (length-append, head-length)
 
 pub record Writable (room at : ℕ) (c : Component) : Type 0 where
-  pub ranges : rangeRefusal c ≡ 0
+  pub held : heldRefusal c ≡ 0
   pub fits : at + length (componentBytes c) ≤ room
 
 pub writable : (room at : ℕ) (c : Component) → writingRefusal room at c ≡ 0 → Writable room at c
 unfolding writingRefusal
 writable room at c =
-    cases (λ (n : ℕ). n ≡ 0 → Writable room at c) (eqb (rangeRefusal c) 0)
-    (λ p e. record { ranges = eqb-true (rangeRefusal c) 0 p; fits = room-given room at (length (componentBytes c)) e })
-    (λ p e. absurd (eqb-false (rangeRefusal c) 0 p e))
+    cases (λ (n : ℕ). n ≡ 0 → Writable room at c) (eqb (heldRefusal c) 0)
+    (λ p e. record { held = eqb-true (heldRefusal c) 0 p; fits = room-given room at (length (componentBytes c)) e })
+    (λ p e. absurd (eqb-false (heldRefusal c) 0 p e))
 
 -- the component's record is written, then its tasks behind it
 module _ (l : List ℕ) (at : ℕ) (c : Component) (h : at + length (componentBytes c) ≤ length l) where

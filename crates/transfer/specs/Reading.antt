@@ -1,4 +1,4 @@
--- Reading one component: its number and interface from its record, its tasks from the records behind it.
+-- Reading one component: its number and interface from its record, its tasks from the records behind it, and their common period.
 use Prim.Native.Nat.{ℕ, zero, suc}
 use mathlib.Core.Bool.{cond}
 use mathlib.Core.List.{List, [], _∷_}
@@ -6,6 +6,7 @@ use lib.ListN.{drop}
 use lib.Dec.{eqb}
 use Rattle.budget.specs.declared.component.Component.{Component}
 use Rattle.budget.specs.declared.task.Task.{Task}
+use Rattle.budget.specs.Common.{commonOf}
 use Rattle.budget.specs.Component.{refused}
 use Rattle.budget.specs.Limits.{most-tasks}
 use Rattle.budget.specs.Refusal as refusal
@@ -30,9 +31,18 @@ unfoldable pub tasksIn : ℕ → List ℕ → List Task
 tasksIn zero s = []
 tasksIn (suc n) s = taskThen (recordOf s) (tasksIn n (drop (sizeOf (recordOf s)) s))
 
--- the component that a component record says, with these tasks, zero in what is returned from the count on (docs/RULES.md, 2)
+-- the component that a component record says, with these tasks, zero in what is returned from the count on, and their common period (docs/RULES.md, 2
+-- and 3)
 unfoldable pub withHead : Head → List Task → Component
-withHead h ks = record { number = h .number; period = h .period; capacity = h .capacity; deadline = h .deadline; table = tableOf ks }
+withHead h ks =
+    record {
+      number = h .number;
+      period = h .period;
+      capacity = h .capacity;
+      deadline = h .deadline;
+      common = commonOf (h .period .0) ks;
+      table = tableOf ks;
+    }
 
 -- the component of a part that begins with this record; a table has places for the most tasks of a component
 unfoldable pub componentFrom : List ℕ → Record → Component

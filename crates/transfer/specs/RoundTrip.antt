@@ -5,7 +5,7 @@ use mathlib.Core.List.{List, [], _∷_, _++_}
 use mathlib.Core.Path.{_≡_}
 use lib.ListN.{length, getD, take, drop}
 use Rattle.budget.specs.declared.component.Component.{Component}
-use Rattle.budget.specs.Component.{Same, rangeRefusal, refused, withTasks}
+use Rattle.budget.specs.Component.{Right, Same, rangeRefusal, refused, withTasks}
 use Rattle.budget.specs.Limits.{most-tasks}
 use Rattle.budget.specs.Refusal as refusal
 use Rattle.budget.specs.Task.{tasksOf}
@@ -86,9 +86,11 @@ abbrev pub PartsRead : Type 0
 PartsRead =
     (s : List ℕ) → Bytes s → check s .refusal ≡ refusal.none → (k : ℕ) → k < check s .count → partOf s k ≡ componentBytes (reading s k .component)
 
--- a valid component: no number of it is refused, its own number is one of 2 bytes, and its table has the places that its type gives it
+-- a valid component: no number of it is refused, its stored value is right, its own number is one of 2 bytes, and its table has the places that its
+-- type gives it
 pub record Sound (c : Component) : Type 0 where
   pub ranges : rangeRefusal c ≡ refusal.none
+  pub common : Right c
   pub number : c .number < 65_536
   pub places : length (c .table .tasks) ≡ most-tasks
 

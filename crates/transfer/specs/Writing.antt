@@ -6,7 +6,7 @@ use lib.ListN.{length}
 use lib.Dec.{ltb, eqb}
 use Rattle.budget.specs.declared.component.Component.{Component}
 use Rattle.budget.specs.declared.task.Task.{Task}
-use Rattle.budget.specs.Component.{rangeRefusal}
+use Rattle.budget.specs.Component.{heldRefusal}
 use Rattle.budget.specs.Refusal as refusal
 use Rattle.budget.specs.Task.{tasksOf}
 use Rattle.record.specs.Layout.{headBytes, taskBytes, endBytes}
@@ -17,14 +17,14 @@ unfoldable pub tasksBytes : List Task → List ℕ
 tasksBytes [] = []
 tasksBytes (k ∷ ks) = taskBytes k ++ tasksBytes ks
 
--- one component's records: its own, then its tasks'
+-- one component's records: its own, then its tasks'; what it stores is in none of them
 unfoldable pub componentBytes : Component → List ℕ
 componentBytes c = headBytes (c .number) (c .period .0) (c .capacity) (c .deadline .0) ++ tasksBytes (tasksOf (c .table))
 
--- a component that can't be taken is refused before a buffer without room for all of it (RULES 13)
+-- a component that can't be taken, by its ranges or its stored value, is refused before a buffer without room for all of it (RULES 13)
 unfoldable pub writingRefusal : ℕ → ℕ → Component → ℕ
 writingRefusal room at c =
-    cond (eqb (rangeRefusal c) refusal.none) (roomRefusal room at (length (componentBytes c))) (rangeRefusal c)
+    cond (eqb (heldRefusal c) refusal.none) (roomRefusal room at (length (componentBytes c))) (heldRefusal c)
 
 -- so is a count of components that no sheet has
 unfoldable pub endRefusal : ℕ → ℕ → ℕ → ℕ

@@ -1,4 +1,5 @@
 // Reading a component: by its place among the components, from its part alone, or between edges that are known.
+use budget::common::common_of;
 use budget::component::Component;
 use budget::component::refused;
 use budget::refusal;
@@ -14,12 +15,13 @@ use sheet::part::locate;
 ghost use mathlib.Core.Path.{_≡_};
 ghost use Prim.Native.Nat.{_≤_};
 ghost use lib.ListN.{length, drop};
-ghost use Rattle.budget.specs.Task.{tableOf};
+ghost use Rattle.budget.specs.Common.{commonOf};
+ghost use Rattle.budget.specs.Task.{tableOf, tasksOf};
 ghost use Rattle.record.specs.Layout.{sizeOf, recordOf};
 ghost use Rattle.transfer.specs.ReadAt.{partAt, readAt};
 ghost use Rattle.transfer.specs.Reading.{tasksIn, componentFrom, reading};
 
-// What a reading answers; refused: the component number 0, stated (1, 1, 1), without tasks.
+// What a reading answers; refused: the component number 0, stated (1, 1, 1), without tasks, its common period 1.
 pub struct Reading {
     pub refusal: u16,
     pub place: usize,
@@ -49,18 +51,21 @@ fn read_tasks(part: &[u8], start: usize) -> Table
     table
 }
 
+// The component of a record and a table. No record holds its common period: that is worked out here, once.
 fn with_head(head: Head, table: Table) -> Component
-    ensures { λ r. ⌜ r ≡ record { number = head .number; period = head .period; capacity = head .capacity; deadline = head .deadline; table = table } ⌝ }
+    ensures { λ r. ⌜ r ≡ record { number = head .number; period = head .period; capacity = head .capacity; deadline = head .deadline; common = commonOf (head .period .0) (tasksOf table); table = table } ⌝ }
 {
     let number = head.number;
     let period = head.period;
     let capacity = head.capacity;
     let deadline = head.deadline;
+    let common = common_of(period, table);
     Component {
         number,
         period,
         capacity,
         deadline,
+        common,
         table,
     }
 }

@@ -1,6 +1,6 @@
 // Writing a component's records, or the end's, at a place of a buffer (RULES 10, 11).
 use budget::component::Component;
-use budget::component::check_ranges;
+use budget::component::check_held;
 use budget::refusal;
 use budget::task::Table;
 use budget::task::Task;
@@ -16,6 +16,7 @@ ghost use Prim.Native.Nat.{_+_, _≤_};
 ghost use lib.ListN.{length};
 ghost use lib.Dec.{ltb};
 ghost use lib.Seq.{sets};
+ghost use Rattle.budget.specs.Component.{heldRefusal};
 ghost use Rattle.budget.specs.Task.{J, tasksOf};
 ghost use Rattle.record.specs.Layout.{endBytes};
 ghost use Rattle.record.specs.Writing.{stored, written, buffered};
@@ -87,12 +88,13 @@ fn component_size(component: Component) -> usize
     size_of(Record::ComponentRecord(head)) + tasks_size(table)
 }
 
-fn check_writing(room: usize, at: usize, component: Component) -> u16
+// The refusal of a component that is to be written, from what it was refused for when it was handed in.
+fn check_writing(held: u16, room: usize, at: usize, component: Component) -> u16
+    requires { ⌜ held ≡ heldRefusal component ⌝ }
     ensures { λ r. ⌜ r ≡ writingRefusal room at component ⌝ }
 {
-    let refused = check_ranges(component);
-    if refused != refusal::NONE {
-        return refused;
+    if held != refusal::NONE {
+        return held;
     }
     let size = component_size(component);
     check_room(room, at, size)
@@ -110,12 +112,13 @@ fn store(buffer: &mut [u8], at: usize, component: Component) -> usize
     write_tasks(buffer, place, table)
 }
 
-// Writes one component's records from a place on, and answers the place behind them.
-pub fn write_component(buffer: &mut [u8], at: usize, component: Component) -> Written
+// Writes one component's records from a place on, from what it was refused for when it was handed in.
+pub(crate) fn write_held(held: u16, buffer: &mut [u8], at: usize, component: Component) -> Written
+    requires { ⌜ held ≡ heldRefusal component ⌝ }
     ensures answer { λ r. ⌜ r ≡ written (writingRefusal (length (now (buffer .entry))) at component) at (componentBytes component) ⌝ }
     ensures bytes { λ _. ⌜ now (buffer .exit) ≡ buffered (writingRefusal (length (now (buffer .entry))) at component) (now (buffer .entry)) at (componentBytes component) ⌝ }
 {
-    let refused = check_writing(buffer.len(), at, component);
+    let refused = check_writing(held, buffer.len(), at, component);
     if refused != refusal::NONE {
         return Written {
             refusal: refused,
@@ -127,6 +130,15 @@ pub fn write_component(buffer: &mut [u8], at: usize, component: Component) -> Wr
         refusal: refusal::NONE,
         place,
     }
+}
+
+// Writes one component's records from a place on, and answers the place behind them.
+pub fn write_component(buffer: &mut [u8], at: usize, component: Component) -> Written
+    ensures answer { λ r. ⌜ r ≡ written (writingRefusal (length (now (buffer .entry))) at component) at (componentBytes component) ⌝ }
+    ensures bytes { λ _. ⌜ now (buffer .exit) ≡ buffered (writingRefusal (length (now (buffer .entry))) at component) (now (buffer .entry)) at (componentBytes component) ⌝ }
+{
+    let held = check_held(component);
+    write_held(held, buffer, at, component)
 }
 
 // Writes the end record from a place on, and answers the place behind it.

@@ -7,8 +7,9 @@ use lib.IntN.{pos, negsuc}
 use Rattle.budget.specs.declared.component.Capacity.the-variants.{Stated}
 use Rattle.budget.specs.declared.component.Component.{Component}
 use Rattle.budget.specs.declared.task.Task.{Task}
+use Rattle.budget.specs.Common.{capped, commonOf, grown, grownBy, sameCommon}
 use Rattle.budget.specs.CommonPeriod.{commonDivisor, commonMultiple, commonPeriod, euclid}
-use Rattle.budget.specs.Component.{commonPeriodOf, componentRefusal, interfaceOf, validComponent, withTasks}
+use Rattle.budget.specs.Component.{commonPeriodOf, componentRefusal, interfaceOf, isRight, validComponent, withTasks}
 use Rattle.budget.specs.Demand.{demand, jobsBy}
 use Rattle.budget.specs.Interface.{validInterface, interfaceRefusal}
 use Rattle.budget.specs.Supply.{supply, wholePeriods}
@@ -43,7 +44,7 @@ abbrev task : ℕ → ℕ → ℕ → ℕ → Task
 task t c d j = record { period = record { 0 = t }; work = record { 0 = c }; deadline = record { 0 = d }; lateness = record { 0 = j } }
 
 abbrev stated : ℕ → ℕ → ℕ → ℕ → List Task → Component
-stated n p q d ks = record { number = n; period = record { 0 = p }; capacity = Stated (record { 0 = q }); deadline = record { 0 = d }; table = tableOf ks }
+stated n p q d ks = record { number = n; period = record { 0 = p }; capacity = Stated (record { 0 = q }); deadline = record { 0 = d }; common = commonOf p ks; table = tableOf ks }
 
 -- component 1, whose task is due within d and up to j late, and component 2
 abbrev child : ℕ → ℕ → Component
@@ -57,29 +58,29 @@ sheet : ℕ → ℕ → List ℕ
 sheet d j = sheetBytes (child d j ∷ parent ∷ []) (record { child = 1; parent = 2 } ∷ [])
 
 child-accepted : placing (sheet 8 0) 0 ≡ Placed.Found 1 (Outcome.Judged (Answered (record { 0 = 2 }) Verdict.Accepted) (Margin.Least (pos 0) (record { 0 = 8 })))
-unfolding sheet sheetBytes componentsBytes componentBytes pairsBytes tasksBytes placing outcomeAt loadAt offersTo offerOf reading partCheck chosen partOf spanOf edgeOf componentFrom withHead tasksIn taskThen check walked walk step opened start judged recordRefusal after headRefusal sizeOf headSize taskSize interfaceRefusal afterHead standingRefusal formRefusal taskRefusal afterTask ended refuse recordOf ofKind rowOf recordWith encode field headBytes taskBytes taskBytesBy pairBytes endBytes paired pairedFrom pairWalk pairStep pairJudged pairRefusal pairs rises registered ownTasks named afterPair stopped registerOf entriesFrom entryOf heldOf held endingRefusal checkedOf pairsOf outcomeOf loadOn allOffered children offerIn workload tasksFrom withTasks tableOf tasksOf verdictAnswer componentRefusal validComponent interfaceOf validInterface validTasks validTask commonPeriodOf commonPeriod commonMultiple commonDivisor euclid judgedAt verdictOn accepts firstShort smallest isShort supply wholePeriods demand jobsBy marginAnswer marginedAt marginOn tightInstant tightAt tried
+unfolding sheet sheetBytes componentsBytes componentBytes pairsBytes tasksBytes placing outcomeAt loadAt offersTo offerOf reading partCheck chosen partOf spanOf edgeOf componentFrom withHead tasksIn taskThen check walked walk step opened start judged recordRefusal after headRefusal sizeOf headSize taskSize interfaceRefusal afterHead standingRefusal formRefusal taskRefusal afterTask ended refuse recordOf ofKind rowOf recordWith encode field headBytes taskBytes taskBytesBy pairBytes endBytes paired pairedFrom pairWalk pairStep pairJudged pairRefusal pairs rises registered ownTasks named afterPair stopped registerOf entriesFrom entryOf heldOf held endingRefusal checkedOf pairsOf outcomeOf loadOn allOffered children offerIn workload tasksFrom withTasks tableOf tasksOf verdictAnswer componentRefusal validComponent interfaceOf validInterface validTasks validTask isRight sameCommon commonOf grownBy grown capped commonPeriodOf commonPeriod commonMultiple commonDivisor euclid judgedAt verdictOn accepts firstShort smallest isShort supply wholePeriods demand jobsBy marginAnswer marginedAt marginOn tightInstant tightAt tried
 child-accepted = refl
 
 -- the parent's own task, then the child's interface
 parent-loaded : loadAt (sheet 8 0) 1 ≡ ready (withTasks parent (task 4 2 4 0 ∷ task 6 2 4 0 ∷ []))
-unfolding sheet sheetBytes componentsBytes componentBytes pairsBytes tasksBytes placing outcomeAt loadAt offersTo offerOf reading partCheck chosen partOf spanOf edgeOf componentFrom withHead tasksIn taskThen check walked walk step opened start judged recordRefusal after headRefusal sizeOf headSize taskSize interfaceRefusal afterHead standingRefusal formRefusal taskRefusal afterTask ended refuse recordOf ofKind rowOf recordWith encode field headBytes taskBytes taskBytesBy pairBytes endBytes paired pairedFrom pairWalk pairStep pairJudged pairRefusal pairs rises registered ownTasks named afterPair stopped registerOf entriesFrom entryOf heldOf held endingRefusal checkedOf pairsOf outcomeOf loadOn allOffered children offerIn workload tasksFrom withTasks tableOf tasksOf verdictAnswer componentRefusal validComponent interfaceOf validInterface validTasks validTask commonPeriodOf commonPeriod commonMultiple commonDivisor euclid judgedAt verdictOn accepts firstShort smallest isShort supply wholePeriods demand jobsBy marginAnswer marginedAt marginOn tightInstant tightAt tried
+unfolding sheet sheetBytes componentsBytes componentBytes pairsBytes tasksBytes placing outcomeAt loadAt offersTo offerOf reading partCheck chosen partOf spanOf edgeOf componentFrom withHead tasksIn taskThen check walked walk step opened start judged recordRefusal after headRefusal sizeOf headSize taskSize interfaceRefusal afterHead standingRefusal formRefusal taskRefusal afterTask ended refuse recordOf ofKind rowOf recordWith encode field headBytes taskBytes taskBytesBy pairBytes endBytes paired pairedFrom pairWalk pairStep pairJudged pairRefusal pairs rises registered ownTasks named afterPair stopped registerOf entriesFrom entryOf heldOf held endingRefusal checkedOf pairsOf outcomeOf loadOn allOffered children offerIn workload tasksFrom withTasks tableOf tasksOf verdictAnswer componentRefusal validComponent interfaceOf validInterface validTasks validTask isRight sameCommon commonOf grownBy grown capped commonPeriodOf commonPeriod commonMultiple commonDivisor euclid judgedAt verdictOn accepts firstShort smallest isShort supply wholePeriods demand jobsBy marginAnswer marginedAt marginOn tightInstant tightAt tried
 parent-loaded = refl
 
 parent-accepted : placing (sheet 8 0) 1 ≡ Placed.Found 2 (Outcome.Judged (Answered (record { 0 = 1 }) Verdict.Accepted) (Margin.Least (pos 0) (record { 0 = 4 })))
-unfolding sheet sheetBytes componentsBytes componentBytes pairsBytes tasksBytes placing outcomeAt loadAt offersTo offerOf reading partCheck chosen partOf spanOf edgeOf componentFrom withHead tasksIn taskThen check walked walk step opened start judged recordRefusal after headRefusal sizeOf headSize taskSize interfaceRefusal afterHead standingRefusal formRefusal taskRefusal afterTask ended refuse recordOf ofKind rowOf recordWith encode field headBytes taskBytes taskBytesBy pairBytes endBytes paired pairedFrom pairWalk pairStep pairJudged pairRefusal pairs rises registered ownTasks named afterPair stopped registerOf entriesFrom entryOf heldOf held endingRefusal checkedOf pairsOf outcomeOf loadOn allOffered children offerIn workload tasksFrom withTasks tableOf tasksOf verdictAnswer componentRefusal validComponent interfaceOf validInterface validTasks validTask commonPeriodOf commonPeriod commonMultiple commonDivisor euclid judgedAt verdictOn accepts firstShort smallest isShort supply wholePeriods demand jobsBy marginAnswer marginedAt marginOn tightInstant tightAt tried
+unfolding sheet sheetBytes componentsBytes componentBytes pairsBytes tasksBytes placing outcomeAt loadAt offersTo offerOf reading partCheck chosen partOf spanOf edgeOf componentFrom withHead tasksIn taskThen check walked walk step opened start judged recordRefusal after headRefusal sizeOf headSize taskSize interfaceRefusal afterHead standingRefusal formRefusal taskRefusal afterTask ended refuse recordOf ofKind rowOf recordWith encode field headBytes taskBytes taskBytesBy pairBytes endBytes paired pairedFrom pairWalk pairStep pairJudged pairRefusal pairs rises registered ownTasks named afterPair stopped registerOf entriesFrom entryOf heldOf held endingRefusal checkedOf pairsOf outcomeOf loadOn allOffered children offerIn workload tasksFrom withTasks tableOf tasksOf verdictAnswer componentRefusal validComponent interfaceOf validInterface validTasks validTask isRight sameCommon commonOf grownBy grown capped commonPeriodOf commonPeriod commonMultiple commonDivisor euclid judgedAt verdictOn accepts firstShort smallest isShort supply wholePeriods demand jobsBy marginAnswer marginedAt marginOn tightInstant tightAt tried
 parent-accepted = refl
 
 child-short : placing (sheet 7 0) 0
     ≡ Placed.Found 1 (Outcome.Judged (Answered (record { 0 = 2 }) (Verdict.Short (record { 0 = 7 }))) (Margin.Least (negsuc 0) (record { 0 = 7 })))
-unfolding sheet sheetBytes componentsBytes componentBytes pairsBytes tasksBytes placing outcomeAt loadAt offersTo offerOf reading partCheck chosen partOf spanOf edgeOf componentFrom withHead tasksIn taskThen check walked walk step opened start judged recordRefusal after headRefusal sizeOf headSize taskSize interfaceRefusal afterHead standingRefusal formRefusal taskRefusal afterTask ended refuse recordOf ofKind rowOf recordWith encode field headBytes taskBytes taskBytesBy pairBytes endBytes paired pairedFrom pairWalk pairStep pairJudged pairRefusal pairs rises registered ownTasks named afterPair stopped registerOf entriesFrom entryOf heldOf held endingRefusal checkedOf pairsOf outcomeOf loadOn allOffered children offerIn workload tasksFrom withTasks tableOf tasksOf verdictAnswer componentRefusal validComponent interfaceOf validInterface validTasks validTask commonPeriodOf commonPeriod commonMultiple commonDivisor euclid judgedAt verdictOn accepts firstShort smallest isShort supply wholePeriods demand jobsBy marginAnswer marginedAt marginOn tightInstant tightAt tried
+unfolding sheet sheetBytes componentsBytes componentBytes pairsBytes tasksBytes placing outcomeAt loadAt offersTo offerOf reading partCheck chosen partOf spanOf edgeOf componentFrom withHead tasksIn taskThen check walked walk step opened start judged recordRefusal after headRefusal sizeOf headSize taskSize interfaceRefusal afterHead standingRefusal formRefusal taskRefusal afterTask ended refuse recordOf ofKind rowOf recordWith encode field headBytes taskBytes taskBytesBy pairBytes endBytes paired pairedFrom pairWalk pairStep pairJudged pairRefusal pairs rises registered ownTasks named afterPair stopped registerOf entriesFrom entryOf heldOf held endingRefusal checkedOf pairsOf outcomeOf loadOn allOffered children offerIn workload tasksFrom withTasks tableOf tasksOf verdictAnswer componentRefusal validComponent interfaceOf validInterface validTasks validTask isRight sameCommon commonOf grownBy grown capped commonPeriodOf commonPeriod commonMultiple commonDivisor euclid judgedAt verdictOn accepts firstShort smallest isShort supply wholePeriods demand jobsBy marginAnswer marginedAt marginOn tightInstant tightAt tried
 child-short = refl
 
 parent-waits : placing (sheet 7 0) 1 ≡ Placed.Found 2 Outcome.Waiting
-unfolding sheet sheetBytes componentsBytes componentBytes pairsBytes tasksBytes placing outcomeAt loadAt offersTo offerOf reading partCheck chosen partOf spanOf edgeOf componentFrom withHead tasksIn taskThen check walked walk step opened start judged recordRefusal after headRefusal sizeOf headSize taskSize interfaceRefusal afterHead standingRefusal formRefusal taskRefusal afterTask ended refuse recordOf ofKind rowOf recordWith encode field headBytes taskBytes taskBytesBy pairBytes endBytes paired pairedFrom pairWalk pairStep pairJudged pairRefusal pairs rises registered ownTasks named afterPair stopped registerOf entriesFrom entryOf heldOf held endingRefusal checkedOf pairsOf outcomeOf loadOn allOffered children offerIn workload tasksFrom withTasks tableOf tasksOf verdictAnswer componentRefusal validComponent interfaceOf validInterface validTasks validTask commonPeriodOf commonPeriod commonMultiple commonDivisor euclid judgedAt verdictOn accepts firstShort smallest isShort supply wholePeriods demand jobsBy marginAnswer marginedAt marginOn tightInstant tightAt tried
+unfolding sheet sheetBytes componentsBytes componentBytes pairsBytes tasksBytes placing outcomeAt loadAt offersTo offerOf reading partCheck chosen partOf spanOf edgeOf componentFrom withHead tasksIn taskThen check walked walk step opened start judged recordRefusal after headRefusal sizeOf headSize taskSize interfaceRefusal afterHead standingRefusal formRefusal taskRefusal afterTask ended refuse recordOf ofKind rowOf recordWith encode field headBytes taskBytes taskBytesBy pairBytes endBytes paired pairedFrom pairWalk pairStep pairJudged pairRefusal pairs rises registered ownTasks named afterPair stopped registerOf entriesFrom entryOf heldOf held endingRefusal checkedOf pairsOf outcomeOf loadOn allOffered children offerIn workload tasksFrom withTasks tableOf tasksOf verdictAnswer componentRefusal validComponent interfaceOf validInterface validTasks validTask isRight sameCommon commonOf grownBy grown capped commonPeriodOf commonPeriod commonMultiple commonDivisor euclid judgedAt verdictOn accepts firstShort smallest isShort supply wholePeriods demand jobsBy marginAnswer marginedAt marginOn tightInstant tightAt tried
 parent-waits = refl
 
 -- a job due within 8 that may be 1 late is judged as one due within 7
 late-child-short : placing (sheet 8 1) 0
     ≡ Placed.Found 1 (Outcome.Judged (Answered (record { 0 = 2 }) (Verdict.Short (record { 0 = 7 }))) (Margin.Least (negsuc 0) (record { 0 = 7 })))
-unfolding sheet sheetBytes componentsBytes componentBytes pairsBytes tasksBytes placing outcomeAt loadAt offersTo offerOf reading partCheck chosen partOf spanOf edgeOf componentFrom withHead tasksIn taskThen check walked walk step opened start judged recordRefusal after headRefusal sizeOf headSize taskSize interfaceRefusal afterHead standingRefusal formRefusal taskRefusal afterTask ended refuse recordOf ofKind rowOf recordWith encode field headBytes taskBytes taskBytesBy pairBytes endBytes paired pairedFrom pairWalk pairStep pairJudged pairRefusal pairs rises registered ownTasks named afterPair stopped registerOf entriesFrom entryOf heldOf held endingRefusal checkedOf pairsOf outcomeOf loadOn allOffered children offerIn workload tasksFrom withTasks tableOf tasksOf verdictAnswer componentRefusal validComponent interfaceOf validInterface validTasks validTask commonPeriodOf commonPeriod commonMultiple commonDivisor euclid judgedAt verdictOn accepts firstShort smallest isShort supply wholePeriods demand jobsBy marginAnswer marginedAt marginOn tightInstant tightAt tried
+unfolding sheet sheetBytes componentsBytes componentBytes pairsBytes tasksBytes placing outcomeAt loadAt offersTo offerOf reading partCheck chosen partOf spanOf edgeOf componentFrom withHead tasksIn taskThen check walked walk step opened start judged recordRefusal after headRefusal sizeOf headSize taskSize interfaceRefusal afterHead standingRefusal formRefusal taskRefusal afterTask ended refuse recordOf ofKind rowOf recordWith encode field headBytes taskBytes taskBytesBy pairBytes endBytes paired pairedFrom pairWalk pairStep pairJudged pairRefusal pairs rises registered ownTasks named afterPair stopped registerOf entriesFrom entryOf heldOf held endingRefusal checkedOf pairsOf outcomeOf loadOn allOffered children offerIn workload tasksFrom withTasks tableOf tasksOf verdictAnswer componentRefusal validComponent interfaceOf validInterface validTasks validTask isRight sameCommon commonOf grownBy grown capped commonPeriodOf commonPeriod commonMultiple commonDivisor euclid judgedAt verdictOn accepts firstShort smallest isShort supply wholePeriods demand jobsBy marginAnswer marginedAt marginOn tightInstant tightAt tried
 late-child-short = refl

@@ -8,3 +8,6 @@ pub mod WorkloadFits
 pub mod NoParentAlone
 pub mod OnlyLong
 pub mod Figures
+pub mod WorkloadCommon
+pub mod LoadRight
+pub mod Stored

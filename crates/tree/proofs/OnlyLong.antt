@@ -14,12 +14,13 @@ use Rattle.budget.specs.declared.component.Capacity.the-variants.{Stated, Asked
 use Rattle.budget.specs.declared.component.Component.{Component}
 use Rattle.budget.specs.declared.quantity.Units.{Units}
 use Rattle.budget.specs.declared.task.Task.{Task}
-use Rattle.budget.specs.Component.{commonPeriodOf, componentRefusal, interfaceOf, unitsOf, withTasks}
+use Rattle.budget.specs.Component.{Right, commonPeriodOf, componentRefusal, interfaceOf, unitsOf, withTasks}
 use Rattle.budget.specs.Interface.{validInterface}
 use Rattle.budget.specs.Limits.{limit, most-tasks}
 use Rattle.budget.specs.Refusal as refusal
 use Rattle.budget.specs.Task.{tableOf, tasksOf, validTask, validTasks}
-use Rattle.budget.proofs.EditLaws.{tasks-of-table}
+use Rattle.budget.proofs.CommonLaws.{with-tasks-right}
+use Rattle.budget.proofs.TableLaws.{tasks-of-table}
 use Rattle.budget.proofs.Ranges.{InRange, in-range, refused-period}
 use Rattle.budget.proofs.Valid.{and-true, both, task-valid, valid-interface}
 use Rattle.judge.specs.declared.answer.Judged.{Judged}
@@ -189,17 +190,17 @@ module _ (s : List ℕ) (bytes : Bytes s) (e : check s .refusal ≡ 0) where
   offers-able zero h = tt
   offers-able (suc k) h = every-more (offersTo s k) _ (offers-able k (omega arith)) (load-able (pairsOf s) (offersTo s k) (reading s k .component) (read-in-range k h .interface))
 
-  only-by : (c : Component) → InRange c → (n : ℕ) → verdictAnswer c ≡ Refused n → n ≡ refusal.long
-  only-by c r n f =
+  only-by : (c : Component) → InRange c → Right c → (n : ℕ) → verdictAnswer c ≡ Refused n → n ≡ refusal.long
+  only-by c r right n f =
       let m = refused-number c n f in
       either (leb (commonPeriodOf c) limit)
-      (λ p. absurd (m .1 (refused-period c r ∙ rw p)))
-      (λ p. sym (m .0) ∙ (refused-period c r ∙ rw p))
+      (λ p. absurd (m .1 (refused-period c r right ∙ rw p)))
+      (λ p. sym (m .0) ∙ (refused-period c r right ∙ rw p))
 
 pub only-long : OnlyLong
 unfolding outcomeAt outcomeOf loadAt loadOn
 only-long s bytes e k h n m =
     let c = reading s k .component in
     cases (λ (l : Load). outcomeOf l ≡ Outcome.Judged (Refused n) m → n ≡ refusal.long) (allOffered (childrenAt s k))
-    (λ p f. only-by s bytes e _ (loaded-in-range c (read-in-range s bytes e k h) (childrenAt s k) (children-able (pairsOf s) (offersTo s k) (offers-able s bytes e k (omega arith)) (c .number)) p (workload-fits s bytes e k h)) n (cc))
+    (λ p f. only-by s bytes e _ (loaded-in-range c (read-in-range s bytes e k h) (childrenAt s k) (children-able (pairsOf s) (offersTo s k) (offers-able s bytes e k (omega arith)) (c .number)) p (workload-fits s bytes e k h)) (with-tasks-right c _) n (cc))
     (λ p f. let z : _≡_ {A = ℕ} 0 1 = cc in absurd (omega arith))

@@ -1,5 +1,5 @@
--- A workload gathered pair by pair: the tasks so far are those of the children met so far, behind the own ones, and the children met so far with
--- those still to come are all the children.
+-- A workload gathered pair by pair: the tasks so far are those of the children met so far, behind the own ones, the common period so far is theirs, and
+-- the children met so far with those still to come are all the children.
 use Prim.Native.Nat.{ℕ, _+_, _-_, _≤_, _<_, min}
 use native.Mathlib.Nat.{min-eq-left, min-eq-right}
 use native.Mathlib.Numerals.{add-one}
@@ -11,10 +11,12 @@ use lib.Dec.{leb, ltb, eqb}
 use lib.ListN.{length, take, set, replicate, length-append, length-set, replicate-append-replicate}
 use lib.Seq.{append-snoc, length-take-le, take-all, take-append-le, take-suc-set, take-take}
 use borrow.Author.Tests.{leb-true, leb-false, ltb-true, ltb-false, le-ltb, eq-eqb, ne-eqb}
+use Rattle.budget.specs.declared.common.Common.{Common}
 use Rattle.budget.specs.declared.component.Component.{Component}
 use Rattle.budget.specs.declared.task.Table.{Table}
 use Rattle.budget.specs.declared.task.Task.{Task}
-use Rattle.budget.specs.Component.{withTasks}
+use Rattle.budget.specs.Common.{commonOf}
+use Rattle.budget.specs.Component.{Right, withTasks}
 use Rattle.budget.specs.Limits.{most-tasks}
 use Rattle.budget.specs.Task.{noTask, tasksOf, tableOf, appended}
 use Rattle.budget.proofs.TableLaws.{append-returned, count-is}
@@ -23,6 +25,7 @@ use Rattle.record.proofs.Cases.{either}
 use Rattle.tree.specs.declared.offer.Offer.{Offer}
 use Rattle.tree.specs.Offer.{withheld, offerIn, asTask}
 use Rattle.tree.specs.Workload.{children, allOffered, tasksFrom, workload, loadOn, ready, waiting}
+use Rattle.tree.proofs.WorkloadCommon.{grownWith, child-grown, own-held}
 
 -- ---- tables that hold the first of many tasks
 
@@ -110,6 +113,12 @@ child-held : (c : Component) (os : List Offer) (t : Table) (o : Offer) → t ≡
 unfolding tasksFrom
 child-held c os t o h = rw (workload-snoc c os o) (child-by (eqb (o .capacity) 0) t (workload c os) o h)
 
+-- and of the common period
+child-stored : (c : Component) (os : List Offer) (t : Table) (o : Offer) → t ≡ tableOf (take most-tasks (workload c os)) → (s : Common) → s ≡ commonOf (c .period .0) (take most-tasks (workload c os))
+    → grownWith s t o ≡ commonOf (c .period .0) (take most-tasks (workload c (os ++ (o ∷ []))))
+unfolding tasksFrom
+child-stored c os t o h s e = rw (workload-snoc c os o) (child-grown (c .period .0) t (workload c os) h s e o (eqb (o .capacity) 0))
+
 offered-append : (os more : List Offer) → allOffered (os ++ more) ≡ (allOffered os && allOffered more)
 unfolding allOffered
 offered-append [] more = refl
@@ -118,32 +127,35 @@ offered-append (o ∷ os) more = ap (λ (b : Bool). not (eqb (o .capacity) withh
 -- ---- the loop over the pairs
 
 -- what is gathered before the pairs that are left
-pub record Gathering (ps rest : List Pair) (os : List Offer) (c : Component) (table : Table) : Type 0 where
+pub record Gathering (ps rest : List Pair) (os : List Offer) (c : Component) (table : Table) (common : Common) : Type 0 where
   pub below : List Offer
   pub held : table ≡ tableOf (take most-tasks (workload c below))
+  pub stored : common ≡ commonOf (c .period .0) (take most-tasks (workload c below))
   pub todo : below ++ children rest os (c .number) ≡ children ps os (c .number)
   pub offered : allOffered below ≡ true
 
 module _ (ps : List Pair) (os : List Offer) (c : Component) where
-  pub gathering-none : (table : Table) → table ≡ tableOf (take most-tasks (tasksOf (c .table))) → Gathering ps ps os c table
+  pub gathering-none : Right c → length (c .table .tasks) ≡ most-tasks → (table : Table) → table ≡ tableOf (take most-tasks (tasksOf (c .table))) → Gathering ps ps os c table (c .common)
   unfolding workload tasksFrom allOffered
-  gathering-none table e =
+  gathering-none right whole table e =
       record {
         below = [];
         held = e ∙ ap (λ (ks : List Task). tableOf (take most-tasks ks)) (sym (append-nil (tasksOf (c .table))));
+        stored = right ∙ ap (commonOf (c .period .0)) (sym (own-held (c .table) whole) ∙ ap (take most-tasks) (sym (append-nil (tasksOf (c .table)))));
         todo = refl;
         offered = refl;
       }
 
   -- the pair that comes next
-  module _ (rest next : List Pair) (child parent : ℕ) (here : rest ≡ record { child = child; parent = parent } ∷ next) (table : Table) (w : Gathering ps rest os c table) where
+  module _ (rest next : List Pair) (child parent : ℕ) (here : rest ≡ record { child = child; parent = parent } ∷ next) (table : Table) (common : Common) (w : Gathering ps rest os c table common) where
     -- it names another parent
-    pub gathering-same : (parent ≡ c .number → ⊥) → Gathering ps next os c table
+    pub gathering-same : (parent ≡ c .number → ⊥) → Gathering ps next os c table common
     unfolding children
     gathering-same other =
         record {
           below = w .below;
           held = w .held;
+          stored = w .stored;
           todo = let t = w .todo in rw (here, ne-eqb parent (c .number) other) at t;
           offered = w .offered;
         }
@@ -154,12 +166,13 @@ module _ (ps : List Pair) (os : List Offer) (c : Component) where
       unfolding children
       todo-next = let t = w .todo in rw found (rw (here, eq-eqb parent (c .number) is) at t)
 
-      pub gathering-more : (o .capacity ≡ withheld → ⊥) → (longer : Table) → longer ≡ withChild table o → Gathering ps next os c longer
+      pub gathering-more : (o .capacity ≡ withheld → ⊥) → (longer : Table) → longer ≡ withChild table o → (more : Common) → more ≡ grownWith common table o → Gathering ps next os c longer more
       unfolding allOffered
-      gathering-more some longer e =
+      gathering-more some longer e more f =
           record {
             below = w .below ++ (o ∷ []);
             held = e ∙ child-held c (w .below) table o (w .held);
+            stored = f ∙ child-stored c (w .below) table o (w .held) common (w .stored);
             todo = append-snoc (w .below) o (children next os (c .number)) ∙ todo-next;
             offered = rw (offered-append (w .below) (o ∷ []), w .offered, ne-eqb (o .capacity) withheld some);
           }
@@ -170,10 +183,10 @@ module _ (ps : List Pair) (os : List Offer) (c : Component) where
       gathering-waits none = rw (← todo-next, offered-append (w .below) (o ∷ children next os (c .number)), w .offered, eq-eqb (o .capacity) withheld none)
 
   -- no pair is left
-  pub gathered : (rest : List Pair) → rest ≡ [] → (table : Table) → Gathering ps rest os c table
-      → loadOn ps os c ≡ ready (record { number = c .number; period = c .period; capacity = c .capacity; deadline = c .deadline; table = table })
+  pub gathered : (rest : List Pair) → rest ≡ [] → (table : Table) (common : Common) → Gathering ps rest os c table common
+      → loadOn ps os c ≡ ready (record { number = c .number; period = c .period; capacity = c .capacity; deadline = c .deadline; common = common; table = table })
   unfolding loadOn children withTasks
-  gathered rest e table w =
+  gathered rest e table common w =
       let t = w .todo in
       let all : w .below ≡ children ps os (c .number) = sym (append-nil (w .below)) ∙ (rw e at t) in
-      rw (← all, w .offered, ← (w .held))
+      rw (← all, w .offered, ← (w .held), ← (w .stored))

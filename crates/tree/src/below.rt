@@ -14,7 +14,7 @@ use transfer::read::read_at;
 ghost use Prim.Native.Nat.{_*_, _≤_};
 ghost use mathlib.Core.Path.{_≡_};
 ghost use lib.ListN.{length, take};
-ghost use Rattle.budget.specs.Component.{refused};
+ghost use Rattle.budget.specs.Component.{Right, refused};
 ghost use Rattle.record.specs.Layout.{recordOf};
 ghost use Rattle.transfer.specs.ReadAt.{readAt};
 ghost use Rattle.transfer.specs.Reading.{componentFrom};
@@ -153,6 +153,7 @@ pub(crate) fn load_below(
     component: Component,
 ) -> Load
     requires { ⌜ (length (now parents) ≡ length (now children)) × (length (now children) ≤ 256) × (place ≤ 256) ⌝ }
+    requires { ⌜ Right component ⌝ }
     ensures { λ r. ⌜ r ≡ loadOn (pairsFrom (now (children .entry)) (now (parents .entry))) (offersBelow (wantedOf (pairsFrom (now (children .entry)) (now (parents .entry))) (component .number)) (pairsFrom (now (children .entry)) (now (parents .entry))) (readAt (now (sheet .entry)) (now (edges .entry))) place) component ⌝ }
 {
     let wanted = wanted_below(children, parents, component.number);

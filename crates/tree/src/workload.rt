@@ -1,7 +1,10 @@
-// A parent's workload (RULES 7): its own tasks, then each child's interface as a task, by rising child number.
+// A parent's workload (RULES 7): its own tasks, then each child's interface as a task, by rising child number. The common period starts from the stored
+// one and goes on with the children's periods.
 use crate::answer::Load;
 use crate::offer::Offer;
 use crate::offer::WITHHELD;
+use budget::common::Common;
+use budget::common::grow;
 use budget::component::Component;
 use budget::component::refused;
 use budget::quantity::Time;
@@ -11,9 +14,11 @@ use budget::task::Task;
 use budget::task::append;
 ghost use mathlib.Core.Bool.{cond};
 ghost use mathlib.Core.Path.{_≡_};
-ghost use lib.Dec.{eqb};
+ghost use lib.Dec.{eqb, ltb};
 ghost use lib.ListN.{take};
 ghost use Prim.Native.Nat.{min};
+ghost use Rattle.budget.specs.Common.{grown};
+ghost use Rattle.budget.specs.Component.{Right};
 ghost use Rattle.budget.specs.Limits.{most-tasks};
 ghost use Rattle.budget.specs.Task.{tasksOf, tableOf, appended};
 ghost use Rattle.tree.specs.Offer.{asTask, offerIn, offersIn};
@@ -90,6 +95,19 @@ fn with_child(table: Table, offer: Offer) -> Table
     append(table, task)
 }
 
+// The common period with what a child adds to this table: one common multiple with what is stored, or none where the table stays as it is.
+fn grow_with(common: Common, table: Table, offer: Offer) -> Common
+    ensures { λ r. ⌜ r ≡ cond (eqb (offer .capacity) 0) common (cond (ltb (table .count) most-tasks) (grown common (offer .period)) common) ⌝ }
+{
+    if offer.capacity == 0 {
+        return common;
+    }
+    if Table::MOST <= table.count {
+        return common;
+    }
+    grow(common, Time(offer.period))
+}
+
 fn waiting() -> Load
     ensures { λ r. ⌜ r ≡ waiting ⌝ }
 {
@@ -100,8 +118,8 @@ fn waiting() -> Load
     }
 }
 
-fn ready(component: Component, table: Table) -> Load
-    ensures { λ r. ⌜ r ≡ ready (record { number = component .number; period = component .period; capacity = component .capacity; deadline = component .deadline; table = table }) ⌝ }
+fn ready(component: Component, common: Common, table: Table) -> Load
+    ensures { λ r. ⌜ r ≡ ready (record { number = component .number; period = component .period; capacity = component .capacity; deadline = component .deadline; common = common; table = table }) ⌝ }
 {
     let number = component.number;
     let period = component.period;
@@ -112,6 +130,7 @@ fn ready(component: Component, table: Table) -> Load
         period,
         capacity,
         deadline,
+        common,
         table,
     };
     Load {
@@ -121,10 +140,12 @@ fn ready(component: Component, table: Table) -> Load
 }
 
 // The component with its whole workload: the pairs as a row of children and one of parents, the offers in one row.
-pub fn load(component: Component, children: &[u16], parents: &[u16], offers: &[u32]) -> Load
+pub(crate) fn load(component: Component, children: &[u16], parents: &[u16], offers: &[u32]) -> Load
+    requires { ⌜ Right component ⌝ }
     ensures { λ r. ⌜ r ≡ loadOn (pairsFrom (now (children .entry)) (now (parents .entry))) (offersIn (now (offers .entry))) component ⌝ }
 {
     let mut table = own_tasks(component.table);
+    let mut common = component.common;
     let mut i = 0;
     while i < children.len() && i < parents.len() {
         if parents[i] == component.number {
@@ -132,9 +153,10 @@ pub fn load(component: Component, children: &[u16], parents: &[u16], offers: &[u
             if offer.capacity == WITHHELD {
                 return waiting();
             }
+            common = grow_with(common, table, offer);
             table = with_child(table, offer);
         }
         i += 1;
     }
-    ready(component, table)
+    ready(component, common, table)
 }

@@ -1,91 +1,21 @@
--- Removing a task answers as defined: the refusals in turn, or the tasks before the place and those after it copied into a table of zeros.
-use Prim.Native.Nat.{ℕ, _+_}
-use mathlib.Core.List.{List, [], _++_}
-use mathlib.Core.Path.{_≡_, sym, _∙_, ap}
-use native.Mathlib.Nat.{le-of-lt}
-use native.Mathlib.Numerals.{add-one}
-use native.Mathlib.Omega.{arith}
-use lib.ListN.{take, drop, length-take}
-use lib.Seq.{take-take}
-use Rattle.budget.specs.declared.task.Table.{Table}
-use Rattle.budget.specs.declared.task.Task.{Task}
-use Rattle.budget.specs.Edit.{removed}
-use Rattle.budget.specs.Task.{tasksOf, tableOf}
-use Rattle.budget.proofs.Edits.{given, removing-ranges, removing-place, removing-given}
-use Rattle.budget.proofs.Ranges.{InRange, in-range}
-use Rattle.budget.proofs.TableLaws.{tasks-are, returned, count-is, after-none}
+-- Removing a task answers as defined: what the component is refused for when it is handed in, or what is removed of it.
+use mathlib.Core.Path.{sym, _∙_}
 use borrow.Author.Needs.{needs}
+use Rattle.budget.proofs.Edits.{removing-held, removing-taken}
+use Rattle.budget.proofs.Ranges.{held}
 use Rattle.budget.proofs.edit.remove_task.Statement.{statement}
 use Rattle.budget.proofs.edit.remove_task.Tie as tie
 
--- the tasks before a place and those after it, put together
-joined : (t r : Table) (ks : List Task) (n : ℕ) → t ≡ tableOf (take n ks) → r ≡ tableOf (tasksOf t ++ drop (n + 1) ks) → r ≡ tableOf (removed ks n)
-unfolding removed
-joined t r ks n e f = rw (tasks-are t _ e, add-one n) at f
-
--- past the first test the component is in its ranges
-known : (c : tie.After-table) → InRange (c .before .before .before .args .component)
-known c = in-range _ (sym (c .before .before .check-ranges .ensures) ∙ c .before .if1 .left)
-
--- the tasks before the place, copied
-kept : (c : tie.After-append-part) → let a = c .before .before .before .before .before .before .args in c .append-part .result ≡ tableOf (take (a .place) (tasksOf (a .component .table)))
-unfolding tasksOf
-kept c =
-    let a = c .before .before .before .before .before .before .args in
-    after-none (c .before .no-tasks .result) _ _ (c .before .no-tasks .ensures) (c .append-part .ensures)
-    ∙ ap tableOf (sym (take-take (a .place) (a .component .table .count) (a .component .table .tasks) (le-of-lt (c .before .before .if2 .left))))
-
--- and those after it
-shorter : (c : tie.After-append-part2) → let a = c .before .before .before .before .before .before .before .args in c .append-part2 .result ≡ tableOf (removed (tasksOf (a .component .table)) (a .place))
-unfolding tasksOf
-shorter c =
-    let a = c .before .before .before .before .before .before .before .args in
-    joined _ _ (tasksOf (a .component .table)) (a .place) (kept (c .before)) (c .append-part2 .ensures)
-
 returns : tie.Need-returns
-returns c = c .no-edit .ensures ∙ sym (removing-ranges _ _ _ (c .before .before .check-ranges .ensures) (c .before .if1 .taken))
+returns c = c .no-edit .ensures ∙ sym (removing-held _ _ _ (c .before .before .check-held .ensures) (c .before .if1 .taken))
+
+removed-at-requires : tie.Need-removed-at-requires
+removed-at-requires c κs = held _ (sym (c .before .check-held .ensures) ∙ c .if1 .left) .0 .count
 
 returns-2 : tie.Need-returns-2
-returns-2 c = c .no-edit2 .ensures ∙ sym (removing-place _ _ (known (c .before .before)) (c .before .if2 .taken))
-
-append-part-requires : tie.Need-append-part-requires
-append-part-requires c κs =
-    let v = known (c .before .before) in (
-      returned _ [] (c .no-tasks .ensures),
-      (omega (arith, v .count, c .before .if2 .left), search needs, omega (arith, count-is _ [] (c .no-tasks .ensures), v .count, c .before .if2 .left)),
-    )
-
-append-part-requires-2 : tie.Need-append-part-requires-2
-append-part-requires-2 c κs =
-    let v = known (c .before .before .before) in
-    let l = c .before .before .if2 .left in
-    let a = c .before .before .before .before .before .before .args in (
-      returned _ _ (kept c),
-      (v .count, search needs, omega (arith, count-is _ _ (kept c), length-take (a .place) (tasksOf (a .component .table)), v .count, l)),
-    )
-
-with-table-requires : tie.Need-with-table-requires
-with-table-requires c κs = returned _ _ (shorter c)
-
-returns-3 : tie.Need-returns-3
-returns-3 c =
-    let d = c .before .before .before .before in
-    c .with-table .ensures
-    ∙ ap (given (d .before .before .before .before .args .component)) (tasks-are _ _ (shorter (c .before)))
-    ∙ sym (removing-given _ _ (known (d .before)) (d .if2 .left))
+returns-2 c =
+    let h = held _ (sym (c .before .before .check-held .ensures) ∙ c .before .if1 .left) in
+    c .removed-at .ensures ∙ sym (removing-taken _ _ (h .0) (h .1))
 
 pub remove-task-spec : {M : Type 1} → statement M
-remove-task-spec =
-    tie.close
-    (tie.spec
-    (λ c κs. search needs)
-    (λ c κs. search needs)
-    returns
-    (λ c κs. search needs)
-    returns-2
-    (λ c κs. search needs)
-    append-part-requires
-    (λ c. search needs)
-    append-part-requires-2
-    with-table-requires
-    returns-3)
+remove-task-spec = tie.close (tie.spec (λ c κs. search needs) (λ c κs. search needs) returns removed-at-requires returns-2)

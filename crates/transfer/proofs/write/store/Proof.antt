@@ -5,7 +5,7 @@ use native.Mathlib.Omega.{arith}
 use lib.ListN.{length}
 use Rattle.budget.specs.declared.component.Component.{Component}
 use Rattle.budget.specs.Task.{tasksOf}
-use Rattle.budget.proofs.Ranges.{in-range}
+use Rattle.budget.proofs.Ranges.{held}
 use Rattle.record.specs.Layout.{headSize, recordBytes}
 use Rattle.transfer.specs.Writing.{tasksBytes, componentBytes}
 use Rattle.transfer.proofs.StoreLaws.{component-length, writable, head-place, head-long, stored-component}
@@ -23,7 +23,7 @@ free : (c : tie.Start) → Free (length (c .args .buffer .now)) (c .args .at) (c
 free c =
     let a = c .args in
     let w = writable (length (a .buffer .now)) (a .at) (a .component) (c .pre) in
-    let few = in-range (a .component) (w .ranges) .count in
+    let few = held (a .component) (w .held) .0 .count in
     record { count = few; size = component-length (a .component); fits = w .fits }
 
 write-tasks-requires : tie.Need-write-tasks-requires

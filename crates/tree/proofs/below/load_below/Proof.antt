@@ -27,6 +27,9 @@ slice-aggregate-offers-below c = sym (length-take-le _ _ (array-share-prefix-row
 slice-aggregate-load : tie.Need-slice-aggregate-load
 slice-aggregate-load c = sym (length-take-le _ _ (search needs))
 
+load-requires : tie.Need-load-requires
+load-requires c κs = c .before .before .before .before .before .before .before .before .pre .1
+
 returns : tie.Need-returns
 returns c =
     let o = c .before .before in
@@ -48,5 +51,5 @@ load-below-spec =
     (λ c. search needs)
     (λ c. search needs)
     slice-aggregate-load
-    (λ c κs. search needs)
+    load-requires
     returns)

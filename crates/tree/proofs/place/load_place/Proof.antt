@@ -2,11 +2,13 @@
 use Prim.Native.Nat.{ℕ, _≤_}
 use native.Mathlib.Omega.{arith}
 use mathlib.Core.List.{List}
-use mathlib.Core.Path.{_≡_, sym, _∙_}
+use mathlib.Core.Path.{_≡_, sym, subst, _∙_}
 use lib.ListN.{length, getD, take}
 use lib.Seq.{length-take-le}
 use denote.Ref.{now}
+use Rattle.budget.specs.Component.{Right}
 use Rattle.budget.proofs.Places.{length-mapped}
+use Rattle.transfer.proofs.ReadRight.{read-at-right}
 use Rattle.transfer.proofs.PairReads.{count-few, from-within}
 use Rattle.tree.proofs.PlaceLaws.{place-refused, place-missing, place-found, pairs-few}
 use borrow.Author.Needs.{needs}
@@ -88,8 +90,10 @@ slice-aggregate-load-below-2 c = let r = c .before .before .before .before .befo
 load-below-requires : tie.Need-load-below-requires
 load-below-requires c κs =
     let r = c .before .before .before .before .before .before .before in
-    let children = lent r (r .read-pairs .result .children) (children-places r) in
-    (lent r (r .read-pairs .result .parents) (parents-places r) ∙ sym children, rw children (few r), omega (arith, last (edges r), edges r .before .if2 .left))
+    let children = lent r (r .read-pairs .result .children) (children-places r) in (
+      (lent r (r .read-pairs .result .parents) (parents-places r) ∙ sym children, rw children (few r), omega (arith, last (edges r), edges r .before .if2 .left)),
+      subst Right (sym (c .before .before .before .read-at .ensures)) (read-at-right _ _ _),
+    )
 
 returns-3 : tie.Need-returns-3
 returns-3 c =

@@ -1,9 +1,11 @@
 -- By whether the row has a place for the offer: each part is what its function ensures.
 use native.Mathlib.Omega.{arith}
-use mathlib.Core.Path.{refl, sym, ap, _∙_}
+use mathlib.Core.Path.{refl, sym, subst, ap, _∙_}
 use lib.Seq.{length-take-le}
 use borrow.Author.Needs.{needs}
 use Rattle.budget.specs.declared.component.Component.{Component}
+use Rattle.budget.specs.Component.{Right}
+use Rattle.transfer.proofs.ReadRight.{read-at-right}
 use Rattle.tree.specs.declared.answer.Outcome.the-variants.{Waiting}
 use Rattle.tree.proofs.turn.turn_at.Statement.{statement}
 use Rattle.tree.proofs.turn.turn_at.Tie as tie
@@ -13,6 +15,9 @@ returns c = ((λ room. absurd (omega arith)), (λ full. (ap (λ (x : Component).
 
 slice-aggregate-judge-next : tie.Need-slice-aggregate-judge-next
 slice-aggregate-judge-next c = sym (length-take-le _ _ (search needs))
+
+judge-next-requires : tie.Need-judge-next-requires
+judge-next-requires c κs = subst Right (sym (c .before .before .read-at .ensures)) (read-at-right _ _ _)
 
 returns-2 : tie.Need-returns-2
 returns-2 c =
@@ -35,7 +40,7 @@ turn-at-spec =
     (λ c. search needs)
     (λ c. search needs)
     slice-aggregate-judge-next
-    (λ c κs. search needs)
+    judge-next-requires
     (λ c κs. search needs)
     (λ c κs. search needs)
     (λ c. search needs)

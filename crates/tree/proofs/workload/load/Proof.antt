@@ -1,4 +1,4 @@
--- The loop's invariant: what is gathered from the pairs before the place, and those from the place on, make the whole workload.
+-- The loop's invariant: what is gathered from the pairs before the place, with its common period, and those from the place on, make the whole workload.
 use Prim.Native.Nat.{ℕ, _+_, _-_}
 use mathlib.Core.List.{List, [], _∷_}
 use mathlib.Core.Logic.{⊎-elim}
@@ -7,6 +7,8 @@ use lib.ListN.{length, getD}
 use denote.Ref.{now}
 use borrow.Author.Needs.{needs}
 use borrow.Author.Tests.{ltb-true, ltb-false}
+use Rattle.budget.specs.Limits.{most-tasks}
+use Rattle.budget.proofs.Places.{length-mapped}
 use Rattle.record.specs.declared.layout.Pair.{Pair}
 use Rattle.tree.specs.declared.offer.Offer.{Offer}
 use Rattle.tree.specs.Offer.{offersIn}
@@ -17,11 +19,11 @@ use Rattle.tree.proofs.workload.load.Statement.{statement}
 use Rattle.tree.proofs.workload.load.Tie as tie
 
 abbrev Inv-loop : tie.InvT-loop
-Inv-loop component children parents offers table₀ i₀ table i =
-    Gathering (pairsFrom children parents) (pairsAfter children parents i) (offersIn offers) component table
+Inv-loop component children parents offers table₀ common₀ i₀ table common i =
+    Gathering (pairsFrom children parents) (pairsAfter children parents i) (offersIn offers) component table common
 
 abbrev μ-loop : tie.MeasureT-loop
-μ-loop component children parents offers table₀ i₀ table i = length children - i
+μ-loop component children parents offers table₀ common₀ i₀ table common i = length children - i
 
 module _ (h : tie.At-loop Inv-loop μ-loop) where
   abbrev start : tie.Start Inv-loop μ-loop
@@ -50,8 +52,12 @@ module _ (c : tie.Then1 Inv-loop μ-loop) where
   here : after head (head .loop .i) ≡ record { child = child; parent = parent } ∷ after head (head .loop .i + 1)
   here = pairs-at _ _ (head .loop .i) (c .before .loop-test .taken) (ltb-true _ _ (c .if1 .taken))
 
+-- a table has the places that its type gives it
+places : (s : tie.Start Inv-loop μ-loop) → length (s .args .component .table .tasks) ≡ most-tasks
+places s = search (needs, length-mapped)
+
 loop-holds : tie.Need-loop-holds Inv-loop μ-loop
-loop-holds c = gathering-none _ _ _ _ (c .own-tasks .ensures)
+loop-holds c = let s = c .before .before .before .before in gathering-none _ _ _ (s .pre) (places s) _ (c .own-tasks .ensures)
 
 returns : tie.Need-returns Inv-loop μ-loop
 returns c =
@@ -60,15 +66,15 @@ returns c =
     let o = t .before .before .before in
     let h = head o in
     c .waiting .ensures
-    ∙ sym (gathering-waits (pairs h) (offers h) (start h .args .component) _ _ (child o) (parent o) (here o) (h .loop .table) (h .loop .inv) (t .if2 .taken) _ (f .find-offer .ensures) (c .before .if3 .taken))
+    ∙ sym (gathering-waits (pairs h) (offers h) (start h .args .component) _ _ (child o) (parent o) (here o) (h .loop .table) (h .loop .common) (h .loop .inv) (t .if2 .taken) _ (f .find-offer .ensures) (c .before .if3 .taken))
 
 loop-again : tie.Need-loop-again Inv-loop μ-loop
 loop-again c =
     let o = c .before .before .before in
     let h = head o in
     ⊎-elim
-    (λ w. gathering-more (pairs h) (offers h) (start h .args .component) _ _ (child o) (parent o) (here o) (h .loop .table) (h .loop .inv) (w .0 .taken) _ (w .2 .ensures) (w .4 .left) _ (w .6 ∙ w .5 .ensures))
-    (λ w. rw (w .1) (gathering-same (pairs h) (offers h) (start h .args .component) _ _ (child o) (parent o) (here o) (h .loop .table) (h .loop .inv) (w .0 .left)))
+    (λ w. gathering-more (pairs h) (offers h) (start h .args .component) _ _ (child o) (parent o) (here o) (h .loop .table) (h .loop .common) (h .loop .inv) (w .0 .taken) _ (w .2 .ensures) (w .4 .left) _ (w .7 ∙ w .6 .ensures) _ (w .8 ∙ w .5 .ensures))
+    (λ w. rw (w .1, w .2) (gathering-same (pairs h) (offers h) (start h .args .component) _ _ (child o) (parent o) (here o) (h .loop .table) (h .loop .common) (h .loop .inv) (w .0 .left)))
     (c .if2 .came)
 
 -- one of the rows has ended
@@ -82,7 +88,7 @@ left c =
 returns-2 : tie.Need-returns-2 Inv-loop μ-loop
 returns-2 c =
     let h = c .before .before in
-    c .ready .ensures ∙ sym (gathered (pairs h) (offers h) (start h .args .component) _ (left (c .before)) (h .loop .table) (h .loop .inv))
+    c .ready .ensures ∙ sym (gathered (pairs h) (offers h) (start h .args .component) _ (left (c .before)) (h .loop .table) (h .loop .common) (h .loop .inv))
 
 pub load-spec : {M : Type 1} → statement M
 load-spec =
@@ -99,6 +105,7 @@ load-spec =
     (λ c κs. search needs)
     (λ c κs. search needs)
     returns
+    (λ c κs. search needs)
     (λ c κs. search needs)
     (λ c. search needs)
     (λ c. search needs)
