@@ -14,5 +14,6 @@ pub mod Level
 pub mod Loaded
 pub mod Places
 pub mod SheetFigure
+pub mod Stored
 pub mod Wider
 pub mod Workload
