@@ -20,8 +20,8 @@
  * host's own code and not proved.
  *
  * Stack and time, measured by tests/outside/worst.c (`make measure`) and not proved. On a thread whose stack was filled with
- * one byte beforehand no call on the sheets tried touched more than 29,751 bytes of it, and 29,847 the first call of a
- * program, which has the C library's linker resolve memcpy on the way; jougsilver_judge_all touched 23,095 of it and
+ * one byte beforehand no call on the sheets tried touched more than 25,799 bytes of it, and 28,887 the first call of a
+ * program, which has the C library's linker resolve memcpy on the way; jougsilver_judge_all touched 20,135 of it and
  * jougsilver_check 12,711. JOUGSILVER_STACK is more than twice that. The longest judgement of one component known is an asked
  * one of 64 tasks with a common period of 1,048,576 and a deadline at every instant: 127 to 136 ms of processor time in five
  * runs on a virtual machine (Intel Xeon, x86-64), and 253 to 350 ms in eight runs of an earlier version on a slower one; stated
