@@ -81,10 +81,10 @@ stays-above [] = refl
 stays-above (k ∷ ks) = stays-above ks
 
 -- a period within the limit is grown, one above it stays above, as the common period does
-grown-is : (p : ℕ) (ks : List Task) → 1 ≤ p → validTasks ks ≡ true → grownBy (capped p) ks ≡ capped (commonPeriod p ks)
-unfolding grownBy grown commonPeriod
-grown-is p [] h e = refl
-grown-is p (k ∷ ks) h e = by (leb p limit) refl (grown-is (commonMultiple p (T k)) ks (first-positive p k ks h e) (valid-tail k ks e))
+pub common-is : (p : ℕ) (ks : List Task) → 1 ≤ p → validTasks ks ≡ true → commonOf p ks ≡ capped (commonPeriod p ks)
+unfolding commonOf grownBy grown commonPeriod
+common-is p [] h e = refl
+common-is p (k ∷ ks) h e = by (leb p limit) refl (common-is (commonMultiple p (T k)) ks (first-positive p k ks h e) (valid-tail k ks e))
   where
     by : (b : Bool) → leb p limit ≡ b → grownBy (capped (commonMultiple p (T k))) ks ≡ capped (commonPeriod (commonMultiple p (T k)) ks)
         → grownBy (grown (capped p) (T k)) ks ≡ capped (commonPeriod (commonMultiple p (T k)) ks)
@@ -92,7 +92,3 @@ grown-is p (k ∷ ks) h e = by (leb p limit) refl (grown-is (commonMultiple p (T
     by false l next =
         rw (capped-above p (leb-false p limit l))
         (stays-above ks ∙ sym (capped-above _ (lt-of-lt-of-le (leb-false p limit l) (common-grows p (k ∷ ks) h e))))
-
-pub common-is : (p : ℕ) (ks : List Task) → 1 ≤ p → validTasks ks ≡ true → commonOf p ks ≡ capped (commonPeriod p ks)
-unfolding commonOf
-common-is p ks h e = grown-is p ks h e

@@ -1,7 +1,8 @@
--- Laws of edits: components that count as the same get the same answers, and removing undoes adding. All go by what is read of a table, its count and its first places, and never by the places from the count on.
+-- Laws of edits: components that count as the same get the same answers, and removing undoes adding. All go by what is read of a table, its count
+-- and its first places, and never by the places from the count on.
 use Prim.Native.Nat.{ℕ, suc, _≤_, _<_}
 use mathlib.Core.Path.{_≡_, refl, sym, ap₂, _∙_}
-use mathlib.Core.Bool.{Bool, true, false, cond, _&&_}
+use mathlib.Core.Bool.{true, false, _&&_}
 use mathlib.Core.List.{List, [], _∷_, _++_, append-nil}
 use lib.Dec.{leb}
 use lib.ListN.{length, length-append, drop-of-length-le}
@@ -21,6 +22,7 @@ use Rattle.budget.specs.Limits.{most-tasks}
 use Rattle.budget.specs.Refusal as refusal
 use Rattle.budget.specs.Task.{tasksOf, tableOf, tableRefusal, validTask, validTasks}
 use Rattle.budget.proofs.CommonLaws.{right, is-right, with-tasks-right}
+use Rattle.budget.proofs.Ranges.{ranges-passed, asked-passed}
 use Rattle.budget.proofs.TableLaws.{tasks-of-table}
 use Rattle.budget.proofs.Valid.{both, and-true}
 
@@ -80,19 +82,14 @@ pub record Addable (c : Component) (k : Task) : Type 0 where
   pub task : validTask k ≡ true
   pub common : Right c
 
-addable-by : (full valid kept : Bool) → cond full refusal.tasks (cond valid (cond kept refusal.none refusal.common) refusal.range) ≡ refusal.none → (full ≡ false) × (valid ≡ true) × (kept ≡ true)
-addable-by true valid kept e = absurd (omega (arith, e))
-addable-by false true true e = (refl, refl, refl)
-addable-by false true false e = absurd (omega (arith, e))
-addable-by false false kept e = absurd (omega (arith, e))
-
 pub addable : (c : Component) (k : Task) → addingRefusal c k ≡ refusal.none → Addable c k
 unfolding addingRefusal validComponent
 addable c k e =
-    let r = addable-by (leb most-tasks (c .table .count)) (validComponent c && validTask k) (isRight c) e in
+    let a = asked-passed (leb most-tasks (c .table .count)) (validComponent c && validTask k) (isRight c) refusal.none e in
+    let r = ranges-passed (leb most-tasks (c .table .count)) (validComponent c && validTask k) (a .0) in
     let s = both (validComponent c) _ (r .1) in
     let i = both (validInterface (interfaceOf c)) _ (s .0) in
-    record { room = leb-false _ _ (r .0); interface = i .0; tasks = i .1; task = s .1; common = right c (r .2) }
+    record { room = leb-false _ _ (r .0); interface = i .0; tasks = i .1; task = s .1; common = right c (a .1) }
 
 length-added : (ks : List Task) (k : Task) → length (added ks k) ≡ suc (length ks)
 unfolding added

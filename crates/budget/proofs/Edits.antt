@@ -1,7 +1,7 @@
 -- What an edit answers, by the refusals that it comes upon in turn.
 use Prim.Native.Nat.{ℕ, _≤_, _<_}
-use mathlib.Core.Path.{_≡_, refl, sym, _∙_, ap}
-use mathlib.Core.Bool.{Bool, true, false, cond, _&&_}
+use mathlib.Core.Path.{_≡_, sym, _∙_, ap}
+use mathlib.Core.Bool.{false, cond, _&&_}
 use mathlib.Core.List.{List}
 use native.Mathlib.Nat.{le-of-lt}
 use native.Mathlib.Omega.{arith}
@@ -22,7 +22,7 @@ use Rattle.budget.specs.Task.{taskRefusal, tasksOf, validTask}
 use Rattle.budget.specs.inner.Edits.{addingRanges, removedAnswer}
 use Rattle.budget.proofs.Answers.{failed}
 use Rattle.budget.proofs.CommonLaws.{is-right}
-use Rattle.budget.proofs.Ranges.{InRange, refused-first, held-first, asked-next}
+use Rattle.budget.proofs.Ranges.{InRange, ranges-passed, ranges-failed, refused-first, held-first, asked-next}
 
 -- an edit that is refused, and one that is not
 abbrev pub none : ℕ → Edited
@@ -57,30 +57,18 @@ module _ (c : Component) (k : Task) where
     unfolding addingRanges validComponent taskRefusal
     ranges-task v = rw (lt-leb _ _ l, v .interface, v .tasks)
 
-  ranges-first : (full valid kept : Bool) → (cond full refusal.tasks (cond valid refusal.none refusal.range) ≡ refusal.none → ⊥)
-      → cond full refusal.tasks (cond valid (cond kept refusal.none refusal.common) refusal.range) ≡ cond full refusal.tasks (cond valid refusal.none refusal.range)
-  ranges-first true valid kept h = refl
-  ranges-first false true kept h = absurd (h refl)
-  ranges-first false false kept h = refl
-
-  ranges-passed : (full valid kept : Bool) → cond full refusal.tasks (cond valid refusal.none refusal.range) ≡ refusal.none
-      → (full ≡ false) × (cond full refusal.tasks (cond valid (cond kept refusal.none refusal.common) refusal.range) ≡ cond kept refusal.none refusal.common)
-  ranges-passed true valid kept e = absurd (omega (arith, e))
-  ranges-passed false true kept e = (refl, refl)
-  ranges-passed false false kept e = absurd (omega (arith, e))
-
   pub adding-refused : (n : ℕ) → n ≡ addingRanges c k → (n ≡ refusal.none → ⊥) → addingAnswer c k ≡ none n
   unfolding addingAnswer addingRefusal addingRanges
-  adding-refused n e h = edited-refused _ n c _ (ranges-first (leb most-tasks (c .table .count)) (validComponent c && validTask k) (isRight c) (λ z. h (e ∙ z)) ∙ sym e) h
+  adding-refused n e h = edited-refused _ n c _ (ranges-failed (leb most-tasks (c .table .count)) (validComponent c && validTask k) _ (λ z. h (e ∙ z)) ∙ sym e) h
 
   module _ (e : addingRanges c k ≡ refusal.none) where
     pub adding-room : c .table .count < most-tasks
     unfolding addingRanges
-    adding-room = leb-false _ _ (ranges-passed (leb most-tasks (c .table .count)) (validComponent c && validTask k) true e .0)
+    adding-room = leb-false _ _ (ranges-passed (leb most-tasks (c .table .count)) (validComponent c && validTask k) e .0)
 
     adding-next : addingRefusal c k ≡ cond (isRight c) refusal.none refusal.common
     unfolding addingRefusal addingRanges
-    adding-next = ranges-passed (leb most-tasks (c .table .count)) (validComponent c && validTask k) (isRight c) e .1
+    adding-next = let p = ranges-passed (leb most-tasks (c .table .count)) (validComponent c && validTask k) e in rw (p .0, p .1)
 
     pub adding-wrong : isRight c ≡ false → addingAnswer c k ≡ none refusal.common
     unfolding addingAnswer

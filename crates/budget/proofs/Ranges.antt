@@ -22,26 +22,26 @@ pub record InRange (k : Component) : Type 0 where
   pub interface : validInterface (interfaceOf k) ≡ true
   pub tasks : validTasks (tasksOf (k .table)) ≡ true
 
--- the tests of the ranges, by their outcomes
-abbrev ranges : Bool → Bool → ℕ
+-- the tests of the ranges, by their outcomes; `over` stands for a table of too many tasks, or of too many for one more
+abbrev pub ranges : Bool → Bool → ℕ
 ranges over valid = cond over refusal.tasks (cond valid refusal.none refusal.range)
 
-abbrev holds : Bool → Bool → Bool → ℕ → ℕ
+abbrev pub holds : Bool → Bool → Bool → ℕ → ℕ
 holds over valid kept n = cond over refusal.tasks (cond valid (cond kept n refusal.common) refusal.range)
 
-ranges-passed : (over valid : Bool) → ranges over valid ≡ refusal.none → (over ≡ false) × (valid ≡ true)
+pub ranges-passed : (over valid : Bool) → ranges over valid ≡ refusal.none → (over ≡ false) × (valid ≡ true)
 ranges-passed true valid e = absurd (omega (arith, e))
 ranges-passed false true e = (refl, refl)
 ranges-passed false false e = absurd (omega (arith, e))
 
 -- whatever is asked after them, failed ranges decide
-ranges-failed : (over valid : Bool) (n : ℕ) → (ranges over valid ≡ refusal.none → ⊥) → cond over refusal.tasks (cond valid n refusal.range) ≡ ranges over valid
+pub ranges-failed : (over valid : Bool) (n : ℕ) → (ranges over valid ≡ refusal.none → ⊥) → cond over refusal.tasks (cond valid n refusal.range) ≡ ranges over valid
 ranges-failed true valid n h = refl
 ranges-failed false true n h = absurd (h refl)
 ranges-failed false false n h = refl
 
 -- what is asked after the stored value is answered where all before it have passed, and what they are refused for decides else
-asked-passed : (over valid kept : Bool) (n : ℕ) → holds over valid kept n ≡ refusal.none → (ranges over valid ≡ refusal.none) × (kept ≡ true) × (n ≡ refusal.none)
+pub asked-passed : (over valid kept : Bool) (n : ℕ) → holds over valid kept n ≡ refusal.none → (ranges over valid ≡ refusal.none) × (kept ≡ true) × (n ≡ refusal.none)
 asked-passed true valid kept n e = absurd (omega (arith, e))
 asked-passed false true true n e = (refl, refl, e)
 asked-passed false true false n e = absurd (omega (arith, e))
