@@ -20,16 +20,16 @@
  * host's own code and not proved.
  *
  * Stack and time, measured by tests/outside/worst.c (`make measure`) and not proved. On a thread whose stack was filled with
- * one byte beforehand no call on the sheets tried touched more than 25,799 bytes of it, and 28,887 the first call of a
- * program, which has the C library's linker resolve memcpy on the way; jougsilver_judge_all touched 20,135 of it and
+ * one byte beforehand no call on the sheets tried touched more than 27,399 bytes of it, and 28,887 the first call of a
+ * program, which has the C library's linker resolve memcpy on the way; jougsilver_judge_all touched 21,735 of it and
  * jougsilver_check 12,711. JOUGSILVER_STACK is more than twice that. The longest judgement of one component known is an asked
- * one of 64 tasks with a common period of 1,048,576 and a deadline at every instant: 127 to 136 ms of processor time in five
- * runs on a virtual machine (Intel Xeon, x86-64), and 253 to 350 ms in eight runs of an earlier version on a slower one; stated
- * instead of asked, 89 to 118 ms in five. Tasks that are late took no longer. To judge a parent, jougsilver_judge judges all
- * that lives inside it first: the top of a chain of 256 components at the large end took 1.36 to 1.65 s in five runs, and
- * jougsilver_judge_all, which judges each component of a sheet just once, 1.36 to 1.6 s for that sheet. 63 components of that
- * longest kind, as many as a sheet holds, took it 8.8 s in one run. To check a full sheet of 256 components took 0.05 to
- * 0.06 ms. Time grows with the common periods and the number of tasks.
+ * one of 64 tasks with a common period of 1,048,576 and a deadline at every instant: 94 to 126 ms of processor time in nine
+ * runs on a virtual machine (Intel Xeon, x86-64); stated instead of asked, 48 to 66 ms. Tasks that are late took no longer. To
+ * judge a parent, jougsilver_judge judges all that lives inside it first: the top of a chain of 256 components at the large
+ * end took 0.95 to 1.77 s in nine runs, and jougsilver_judge_all, which judges each component of a sheet just once, 1.21 to
+ * 1.78 s for that sheet. 63 components of that longest kind, as many as a sheet holds, took it 6.9 to 7.6 s in three runs, and
+ * 256 asked components of 15 tasks each with a deadline at every instant 8.2 to 8.8 s. To check a full sheet of 256 components
+ * took 0.07 to 0.09 ms. Time grows with the common periods and the number of tasks.
  */
 #ifndef JOUGSILVER_H
 #define JOUGSILVER_H
@@ -45,11 +45,12 @@ extern "C" {
    neither accepted nor short. A patch changes no answer. 0.2.0 brought components inside components: jougsilver_judge_all,
    code 3 and refusal 16. 0.3.0 brought jobs that become ready late: a sheet's record of kind 5, a task with its lateness J,
    which was refused with 2 before. 0.4.0 brought components that store their common period, and refusal 17 for one that is
-   handed in with a wrong one; the calls here take sheets alone, and answer every sheet as before. */
+   handed in with a wrong one; the calls here take sheets alone, and answer every sheet as before. 0.5.0 scans the instants once
+   for verdict and margin together, and answers every sheet as before. */
 #define JOUGSILVER_VERSION_MAJOR 0
-#define JOUGSILVER_VERSION_MINOR 4
+#define JOUGSILVER_VERSION_MINOR 5
 #define JOUGSILVER_VERSION_PATCH 0
-#define JOUGSILVER_VERSION "0.4.0"
+#define JOUGSILVER_VERSION "0.5.0"
 
 /* Bytes of stack that are enough for any call, as measured. */
 #define JOUGSILVER_STACK 65536

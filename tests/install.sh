@@ -77,7 +77,7 @@ outside_fresh() {
     for sheet in "$work"/sheets/*; do outside_verdicts "$sheet" || return; done
 }
 stack_is_enough() { run_abroad ./worst; }
-measured() { make measure RUNS=1 >"$work/made" && [ "$(grep -c '^\(judge\|judge_all\|check\), .* bytes of stack .* ms$' "$work/made")" -eq 11 ]; }
+measured() { make measure RUNS=1 >"$work/made" && [ "$(grep -c '^\(judge\|judge_all\|check\), .* bytes of stack .* ms$' "$work/made")" -eq 12 ]; }
 
 # ---- the installed commands, from another folder and with no rt on the PATH
 installed_command() { # NAME WORD...

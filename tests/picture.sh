@@ -26,7 +26,7 @@ own_of() { # SHEET NUMBER
 # is drawn with its deadline as capacity.
 pictured() { # SHEET NUMBER
     scripts/picture "$1" "$2" >"$work/svg" && scripts/picture --second "$1" "$2" >"$work/svg.second" && same "$work/svg.second" "$work/svg" && plain_svg "$work/svg" || return
-    local component words judged verdict margin
+    local component words judged verdict margin word instant units
     local -x LC_ALL=C
     component=$(component_of "$1" "$2")
     read -ra words <<<"$(grep "^$2 " "$work/listed")"
@@ -36,7 +36,9 @@ pictured() { # SHEET NUMBER
     short) verdict="short ${words[3]} ${words[2]}" margin="${words[4]} ${words[5]}" ;;
     none)
         judged=$(awk '{ $2 = "stated " $4; print }' <<<"$component")
-        { read -r _ verdict && read -r _ margin; } < <(printf 'verdict %s\nmargin %s\n' "$judged" "$judged" | "$second" answer)
+        read -r _ word instant units margin < <(echo "judge $judged" | "$second" answer)
+        [ "$word" = short ] || return
+        verdict="short $instant $units"
         grep -qx 'verdict none 0' "$work/svg" || return
         ;;
     *) return 1 ;;

@@ -46,9 +46,11 @@ pub fn rows() -> Vec<Row> {
 }
 
 /// The kinds of call that a row is measured at.
-pub const KINDS: [&str; 3] = ["verdict", "margin", "capacity"];
+pub const KINDS: [&str; 2] = ["judge", "capacity"];
 
-/// The calls of a row at one kind: verdict and margin at the stated capacity, the smallest capacity where it is asked.
+/// The calls of a row at one kind: judged at the stated capacity, the smallest capacity where it is asked. To judge, the plain search goes
+/// through the instants once for the first short one and once more for the margin, as the rules say them one by one; a plain search that
+/// carries both in one loop would take half of that time or more.
 pub fn calls(row: &Row, kind: &str) -> String {
     let capacity = if kind == "capacity" { Capacity::Asked } else { Capacity::Stated(row.capacity) };
     let tasks = row.tasks.iter().map(|&(period, work, deadline)| Task::new(period, work, deadline)).collect();

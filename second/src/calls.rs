@@ -1,6 +1,6 @@
 //! The calls of docs/CALLS.md and their answers, one line each.
 
-use crate::judge::{self, Verdict};
+use crate::judge::{self, Judgement, Verdict};
 use crate::numbers::{add_task, common_divisor, make, remove_task, Capacity, Component, Interface, Refusal, Stored, Table, Task, TASKS};
 use crate::run::{self, Jobs};
 use crate::sheet::{Fault, Pair};
@@ -235,8 +235,7 @@ pub enum Call {
     Edit(Vec<u8>, u64, Vec<Edit>),
     Legal(Interface, u32, Vec<u8>),
     Walk(Table, Jobs, Vec<u8>, u64),
-    Verdict(Component),
-    Margin(Component),
+    Judge(Component),
     Capacity(Component),
     Sheet(Vec<u8>),
     Part(Vec<u8>, u64),
@@ -275,8 +274,7 @@ pub fn parse(line: &str) -> Parsed<Call> {
             let (table, jobs) = (w.table()?, w.jobs()?);
             Call::Walk(table, jobs, w.row()?, w.number(2_048)?)
         }
-        "verdict" => Call::Verdict(w.component()?),
-        "margin" => Call::Margin(w.component()?),
+        "judge" => Call::Judge(w.component()?),
         "capacity" => Call::Capacity(w.component()?),
         "sheet" => Call::Sheet(w.row()?),
         "part" => Call::Part(w.row()?, w.place()?),
@@ -330,16 +328,13 @@ fn whole(component: Component) -> String {
     format!("{} zero", component_text(&component))
 }
 
-fn verdict_text((verdict, capacity): (Verdict, u32)) -> String {
+fn judgement_text(Judgement { verdict, capacity, margin }: Judgement) -> String {
+    let measured = margin.map_or("none".to_string(), |(least, instant)| format!("{least} {instant}"));
     match verdict {
-        Verdict::Accepted => format!("accepted {capacity}"),
-        Verdict::Short(instant) => format!("short {instant} {capacity}"),
-        Verdict::None => format!("none {capacity}"),
+        Verdict::Accepted => format!("accepted {capacity} {measured}"),
+        Verdict::Short(instant) => format!("short {instant} {capacity} {measured}"),
+        Verdict::None => format!("none {capacity} {measured}"),
     }
-}
-
-fn margin_text(margin: judge::Margin) -> String {
-    margin.map_or("none".to_string(), |(least, instant)| format!("{least} {instant}"))
 }
 
 fn smallest_text(units: Option<u32>) -> String {
@@ -382,15 +377,14 @@ fn edit(row: &[u8], place: u64, edits: &[Edit]) -> String {
     }
 }
 
-/// A component, its verdict, margin and smallest capacity, each or its refusal, and its records as they are written.
+/// A component, what judging it answers, its smallest capacity, each or its refusal, and its records as they are written.
 fn about(component: Component) -> String {
     let refused = |refusal: Refusal| format!("refused {refusal}");
-    let verdict = judge::verdict(&component).map_or_else(refused, verdict_text);
-    let margin = judge::margin(&component).map_or_else(refused, margin_text);
+    let judged = judge::judge(&component).map_or_else(refused, judgement_text);
     let smallest = judge::smallest(&component).map_or_else(refused, smallest_text);
     let mut buffer = [BUFFER_BYTE; EDITED];
     let end = sheet::write_component(&component, &mut buffer, 0).expect("room for 64 tasks") as usize;
-    format!("{} {verdict} {margin} {smallest} {}", whole(component), row_text(&buffer[..end]))
+    format!("{} {judged} {smallest} {}", whole(component), row_text(&buffer[..end]))
 }
 
 /// The tree of a sheet that has a component at a place: the sheet's refusal, then 15.
@@ -413,7 +407,7 @@ fn in_tree(row: &[u8], place: u64) -> String {
     match tree.judged(place) {
         Judged::Waiting => format!("ok {number} waiting"),
         Judged::Long => "refused 10 0".to_string(),
-        Judged::Answered(verdict, capacity, margin) => format!("ok {number} {} {}", verdict_text((verdict, capacity)), margin_text(margin)),
+        Judged::Answered(judgement) => format!("ok {number} {}", judgement_text(judgement)),
     }
 }
 
@@ -450,8 +444,7 @@ pub fn answer(call: Call) -> String {
             answered(trace::answer(&interface, offset as u64, &row), false, |yes| if yes { "yes" } else { "no" }.to_string())
         }
         Call::Walk(table, jobs, row, length) => walk(&table, &jobs, &row, length),
-        Call::Verdict(component) => answered_alone(judge::verdict(&component), verdict_text),
-        Call::Margin(component) => answered_alone(judge::margin(&component), margin_text),
+        Call::Judge(component) => answered_alone(judge::judge(&component), judgement_text),
         Call::Capacity(component) => answered_alone(judge::smallest(&component), smallest_text),
         Call::Sheet(row) => faulted(sheet::read(&row).map(|sheet| sheet.components.len()), 0, |count| count.to_string()),
         Call::Part(row, place) => part(&row, place),
@@ -503,9 +496,11 @@ mod tests {
         holds("legal 6 2 4 6 -", "refused 9 no");
         holds("walk 1 8 2 7 0 1 0 1 0 1 0 1 2 0000000000000101 1", "ok miss 7 0 1 0 1 1");
         holds("walk 1 8 2 7 0 1 0 1 0 1 0 1 2 0000000000000101 2", "refused 11 none 0 0 2 77 77");
-        holds("verdict 1 stated 2 6 4 24 1 8 2 7 0", "ok short 7 2");
-        holds("verdict 1 asked 6 4 24 1 8 2 7 0", "ok accepted 3");
-        holds("margin 1 asked 6 4 24 1 8 2 7 0", "ok 1 7");
+        holds("judge 1 stated 2 6 4 24 1 8 2 7 0", "ok short 7 2 -1 7");
+        holds("judge 1 asked 6 4 24 1 8 2 7 0", "ok accepted 3 1 7");
+        holds("judge 4 asked 6 4 12 1 4 2 2 0", "ok none 0 none");
+        holds("judge 5 asked 6 4 6 0", "ok accepted 0 none");
+        holds("judge 1 asked 3 3 above 1 1048576 1 1 0", "refused 10");
         holds("capacity 1 asked 6 4 12 1 4 2 2 0", "ok none");
         holds("capacity 1 stated 4 6 4 24 1 8 2 7 0", "ok 3");
         holds("capacity 1 asked 3 3 above 1 1048576 1 1 0", "refused 10");
@@ -562,8 +557,8 @@ mod tests {
         holds("walk 1 8 2 8 1 1 0 1 -2 1 0 1 2 0000000000000101 1", "refused 12 none 0 0 1 77");
         holds("walk 1 8 2 8 1 1 0 1 -1 1 0 1 2 - 1", "ok none 0 0 1 2");
         holds("walk 1 8 2 8 1 1 0 1 -2147483648 1 4294967295 1 2 - 1", "refused 12 none 0 0 1 77");
-        holds("verdict 1 stated 2 6 4 24 1 8 2 8 1", "ok short 7 2");
-        holds("margin 1 stated 2 6 4 24 1 8 2 8 2", "ok -2 6");
+        holds("judge 1 stated 2 6 4 24 1 8 2 8 1", "ok short 7 2 -1 7");
+        holds("judge 1 stated 2 6 4 24 1 8 2 8 2", "ok short 6 2 -2 6");
         holds("capacity 1 asked 6 4 24 1 8 2 8 3", "ok 4");
         let late = row_text(&text::bytes("component 7 asked 6 4\ntask 8 2 8 3\nend 1").unwrap());
         holds(&format!("read {late} 0"), "ok 7 asked 6 4 24 1 8 2 8 3 zero");
@@ -585,8 +580,8 @@ mod tests {
         holds("remove_task 7 stated 2 3 3 3145728 1 1048576 1 1 0 9", &refused(17));
         holds("check_component 7 stated 2 6 4 above 1 8 2 8 1", "refused 17");
         holds("common_period 7 stated 2 6 4 48 1 8 2 8 1", "refused 17 0");
-        holds("verdict 7 stated 2 6 4 0 1 8 2 8 1", "refused 17");
-        holds("margin 7 stated 2 3 3 1048576 1 1048576 1 1 0", "refused 17");
+        holds("judge 7 stated 2 6 4 0 1 8 2 8 1", "refused 17");
+        holds("judge 7 stated 2 3 3 1048576 1 1048576 1 1 0", "refused 17");
         holds("capacity 7 stated 2 6 5 4294967295 1 8 2 8 1", "refused 17");
         holds("capacity 7 stated 2 6 7 4294967295 1 8 2 8 1", "refused 9");
         holds("write 7 stated 2 6 4 23 1 8 2 8 1 2 0", "refused 17 0 a5a5");
@@ -601,7 +596,7 @@ mod tests {
         holds(&format!("edit {row} 0 2 add 8 2 8 1 remove 0"), &format!("ok 7 stated 2 6 4 24 1 8 2 8 1 zero short 7 2 -1 7 3 {late}"));
         holds(&format!("edit {row} 0 1 remove 0"), &format!("ok 7 stated 2 6 4 6 0 zero accepted 2 none 0 {}", &row[..36]));
         let long = &sheet("component 7 stated 6 2 4\ntask 8 2 7\ntask 1048575 1 1\nend 1")[..100];
-        let answer = format!("ok 7 stated 2 6 4 above 2 8 2 7 0 1048575 1 1 0 zero refused 10 refused 10 refused 10 {long}");
+        let answer = format!("ok 7 stated 2 6 4 above 2 8 2 7 0 1048575 1 1 0 zero refused 10 refused 10 {long}");
         holds(&format!("edit {row} 0 1 add 1048575 1 1 0"), &answer);
         holds(&format!("edit {row} 0 2 add 1048575 1 1 0 remove 1"), &format!("ok 7 stated 2 6 4 24 1 8 2 7 0 zero short 7 2 -1 7 3 {}", &row[..68]));
         holds(&format!("edit {row} 0 0"), &format!("ok 7 stated 2 6 4 24 1 8 2 7 0 zero short 7 2 -1 7 3 {}", &row[..68]));
@@ -614,7 +609,7 @@ mod tests {
     #[test]
     fn what_is_no_call_is_named() {
         for stored in ["-1", "4294967296", "Above", "", "mark"] {
-            assert!(parse(&format!("verdict 1 stated 2 6 4 {stored} 0")).is_err(), "{stored}");
+            assert!(parse(&format!("judge 1 stated 2 6 4 {stored} 0")).is_err(), "{stored}");
         }
         assert!(parse("edit - 0 201").is_err());
         assert!(parse("edit - 0 1 move 3").is_err());
@@ -629,5 +624,8 @@ mod tests {
         assert!(parse("supply 6 2 4 8 9").is_err());
         assert!(parse("legal 6 2 4 0 0").is_err());
         assert!(parse("suply 6 2 4 8").is_err());
+        for gone in ["verdict", "margin"] {
+            assert!(parse(&format!("{gone} 1 stated 2 6 4 24 1 8 2 7 0")).is_err(), "{gone}");
+        }
     }
 }

@@ -1,10 +1,10 @@
 //! What a set of calls reaches: each refusal of each operation, each kind of answer, ties, both ends of each range, and the rules about
-//! pairs and trees, about lateness and about stored common periods.
+//! judging, about pairs and trees, about lateness and about stored common periods.
 
 use crate::calls::{self, Call};
 use crate::numbers::{Capacity, Component, Interface, Table, Task, LIMIT, TASKS};
 use crate::tree::Tree;
-use crate::{coverage_late, coverage_pairs, coverage_stored, demand, host, run, sheet, supply};
+use crate::{coverage_judge, coverage_late, coverage_pairs, coverage_stored, host, run, sheet};
 use std::collections::BTreeMap;
 
 #[derive(Default)]
@@ -13,7 +13,7 @@ pub struct Seen {
 }
 
 /// For each kind of call the refusals that it can meet (RULES 13).
-const REFUSALS: [(&str, &[u16]); 28] = [
+const REFUSALS: [(&str, &[u16]); 27] = [
     ("check_task", &[9]),
     ("check_table", &[6, 9]),
     ("check_interface", &[9]),
@@ -27,8 +27,7 @@ const REFUSALS: [(&str, &[u16]); 28] = [
     ("edit", &[1, 2, 3, 4, 5, 6, 7, 8, 9, 14, 15, 16]),
     ("legal", &[9, 13]),
     ("walk", &[6, 9, 11, 12, 13]),
-    ("verdict", &[6, 9, 10, 17]),
-    ("margin", &[6, 9, 10, 17]),
+    ("judge", &[6, 9, 10, 17]),
     ("capacity", &[6, 9, 10, 17]),
     ("sheet", &[1, 2, 3, 4, 5, 6, 7, 8, 9, 14, 16]),
     ("part", &[1, 2, 3, 4, 5, 6, 7, 8, 9, 14, 15, 16]),
@@ -46,7 +45,7 @@ const REFUSALS: [(&str, &[u16]); 28] = [
 
 /// The answers that are no refusals, by what stands in them; ties; and the ends of ranges, the last one taken and the first
 /// one refused.
-const OTHERS: [&str; 100] = [
+const OTHERS: [&str; 99] = [
     "check_task ok",
     "check_table ok",
     "check_interface ok",
@@ -63,13 +62,13 @@ const OTHERS: [&str; 100] = [
     "legal ok no",
     "walk ok none",
     "walk ok miss",
-    "verdict ok accepted",
-    "verdict ok short",
-    "verdict ok none",
-    "margin ok none",
-    "margin ok negative",
-    "margin ok zero",
-    "margin ok positive",
+    "judge ok accepted",
+    "judge ok short",
+    "judge ok none",
+    "judge ok, margin none",
+    "judge ok, margin negative",
+    "judge ok, margin zero",
+    "judge ok, margin positive",
     "capacity ok found",
     "capacity ok none",
     "sheet ok",
@@ -102,7 +101,6 @@ const OTHERS: [&str; 100] = [
     "host_all no margin",
     "tie: a unit between two jobs of one deadline",
     "tie: two tasks late at the miss",
-    "tie: two step instants with the least margin",
     "walk: a deadline at the trace's end",
     "walk: a deadline after the trace's end",
     "task: T is 1",
@@ -174,6 +172,7 @@ impl Seen {
         self.ends(&call);
         self.ties(&call);
         self.tree(&call);
+        coverage_judge::of_call(&call).iter().for_each(|what| self.add(what));
         coverage_late::of_call(&call).iter().for_each(|what| self.add(what));
         coverage_stored::of_call(&call).iter().for_each(|what| self.add(what));
         let at = if let Call::Host(.., at) | Call::HostCheck(.., at) | Call::HostAll(.., at) = &call { *at as usize } else { 0 };
@@ -193,11 +192,18 @@ impl Seen {
                 self.add(&format!("tree ok {word}"));
                 self.add_if(*word == "accepted" && rest.last() == Some(&"none"), "tree ok no margin");
             }
-            ("legal" | "walk" | "verdict", ["ok", word, ..]) => self.add(&format!("{kind} ok {word}")),
-            ("margin" | "capacity", ["ok", "none"]) => self.add(&format!("{kind} ok none")),
+            ("judge", ["ok", word, .., _, last]) => {
+                self.add(&format!("judge ok {word}"));
+                self.add(match words[words.len() - 2] {
+                    _ if *last == "none" => "judge ok, margin none",
+                    "0" => "judge ok, margin zero",
+                    least if least.starts_with('-') => "judge ok, margin negative",
+                    _ => "judge ok, margin positive",
+                });
+            }
+            ("legal" | "walk", ["ok", word, ..]) => self.add(&format!("{kind} ok {word}")),
+            ("capacity", ["ok", "none"]) => self.add("capacity ok none"),
             ("capacity", _) => self.add("capacity ok found"),
-            ("margin", ["ok", "0", _]) => self.add("margin ok zero"),
-            ("margin", ["ok", least, _]) => self.add(if least.starts_with('-') { "margin ok negative" } else { "margin ok positive" }),
             _ => self.add(&format!("{kind} ok")),
         }
     }
@@ -317,7 +323,7 @@ impl Seen {
             Call::CheckTable(table) => self.table(table),
             Call::CheckInterface(interface) => self.interface(interface),
             Call::CheckComponent(component) | Call::CommonPeriod(component) => self.component(component),
-            Call::Verdict(component) | Call::Margin(component) | Call::Capacity(component) => self.component(component),
+            Call::Judge(component) | Call::Capacity(component) => self.component(component),
             Call::AddTask(component, _) | Call::RemoveTask(component, _) => self.component(component),
             Call::Make(number, capacity, period, deadline, table) => {
                 self.component(&Component::new(*number, *capacity, *period, *deadline, table.clone()));
@@ -375,15 +381,6 @@ impl Seen {
                 self.add_if((0..jobs.tasks.len()).any(|job| deadline(job) == end), "walk: a deadline at the trace's end");
                 self.add_if((0..jobs.tasks.len()).any(|job| deadline(job) > end), "walk: a deadline after the trace's end");
             }
-            Call::Margin(component) => {
-                if let (Capacity::Stated(units), Ok(common)) = (component.capacity, component.common_period()) {
-                    let (interface, table) = (component.interface(units), &component.table);
-                    let steps = (1..=common.min(10_000)).filter(|&t| demand::demand(table, t) > demand::demand(table, t - 1));
-                    let margins: Vec<i64> = steps.map(|t| supply::supply(&interface, t) as i64 - demand::demand(table, t) as i64).collect();
-                    let least = margins.iter().min();
-                    self.add_if(margins.iter().filter(|margin| Some(*margin) == least).count() > 1, "tie: two step instants with the least margin");
-                }
-            }
             _ => {}
         }
     }
@@ -400,7 +397,8 @@ impl Seen {
         let refusals = REFUSALS.iter().flat_map(|(kind, numbers)| numbers.iter().map(move |number| format!("{kind} refused {number}")));
         let mut text = String::new();
         let mut missing = 0;
-        let rules = coverage_pairs::REACHED.iter().chain(&coverage_late::REACHED).chain(&coverage_stored::REACHED);
+        let judging = coverage_judge::REACHED.iter();
+        let rules = judging.chain(&coverage_pairs::REACHED).chain(&coverage_late::REACHED).chain(&coverage_stored::REACHED);
         for what in OTHERS.iter().chain(rules).map(|what| what.to_string()).chain(refusals) {
             let count = self.reached(&what);
             missing += (count == 0) as usize;
@@ -427,8 +425,7 @@ fn kind(call: &Call) -> &'static str {
         Call::Edit(..) => "edit",
         Call::Legal(..) => "legal",
         Call::Walk(..) => "walk",
-        Call::Verdict(..) => "verdict",
-        Call::Margin(..) => "margin",
+        Call::Judge(..) => "judge",
         Call::Capacity(..) => "capacity",
         Call::Sheet(..) => "sheet",
         Call::Part(..) => "part",

@@ -3,7 +3,7 @@
 
 use crate::calls::Call;
 use crate::coverage_pairs::kind_at;
-use crate::judge::{self, Verdict};
+use crate::judge::{judge, Judgement, Verdict};
 use crate::numbers::{add_task, remove_task, Capacity, Component, Table, Task, TASKS};
 use crate::run::{self, Jobs, JOBS};
 use crate::sheet::{self, Sheet};
@@ -89,7 +89,7 @@ pub fn of_call(call: &Call) -> Vec<String> {
                 _ => vec![],
             }
         }
-        Call::Verdict(component) | Call::Margin(component) | Call::Capacity(component) => of_judged(component),
+        Call::Judge(component) | Call::Capacity(component) => of_judged(component),
         Call::AddTask(component, task) => said(task.lateness > 0 && add_task(component, *task).is_ok(), "late: a task added"),
         Call::RemoveTask(component, place) => {
             let moves = remove_task(component, *place).is_ok_and(|edited| edited.table.tasks[*place as usize..].iter().any(late));
@@ -245,15 +245,15 @@ fn of_judged(component: &Component) -> Vec<String> {
         return vec![];
     }
     let on_time = Component { table: Table::new(component.table.tasks.iter().map(|task| task.late(0)).collect()), ..component.clone() };
-    let judged = |component: &Component| (judge::verdict(component), judge::margin(component).ok().flatten());
-    let ((Ok((verdict, capacity)), margin), (Ok((before, less)), easier)) = (judged(component), judged(&on_time)) else {
+    let (Ok(Judgement { verdict, capacity, margin }), Ok(on_time)) = (judge(component), judge(&on_time)) else {
         return vec![];
     };
+    let before = on_time.verdict;
     let stated = component.capacity != Capacity::Asked;
-    let margins = margin.zip(easier).filter(|_| stated);
+    let margins = margin.zip(on_time.margin).filter(|_| stated);
     reached(&[
         (verdict == Verdict::Accepted, "late: accepted"),
-        (verdict == Verdict::Accepted && capacity > less, "late: a larger capacity than on time"),
+        (verdict == Verdict::Accepted && capacity > on_time.capacity, "late: a larger capacity than on time"),
         (matches!((verdict, before), (Verdict::Short(_), Verdict::Accepted)), "late: short, and accepted on time"),
         (matches!((verdict, before), (Verdict::Short(a), Verdict::Short(b)) if a < b), "late: short earlier than on time"),
         ((verdict, before) == (Verdict::None, Verdict::Accepted), "late: none, and accepted on time"),

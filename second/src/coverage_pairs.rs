@@ -1,6 +1,6 @@
 //! What the sheet of a call reaches of the rules about pairs (RULES 10 and 13) and about trees (RULES 7).
 
-use crate::judge::{Margin, Verdict};
+use crate::judge::{Judgement, Verdict};
 use crate::numbers::{Capacity, Task, TASKS};
 use crate::sheet::{self, Pair, Sheet};
 use crate::tree::{with_tasks, Judged, Tree};
@@ -166,13 +166,14 @@ fn chain(tree: &Tree, place: usize) -> usize {
 /// What the component at a place reaches, where it is a parent.
 pub fn of_place(tree: &Tree, place: usize) -> Vec<&'static str> {
     let children: Vec<Judged> = tree.children(place).iter().map(|&child| tree.judged(child)).collect();
-    let short_late = |child: usize| late(tree, child) && matches!(tree.judged(child), Judged::Answered(Verdict::Short(_), ..));
+    let short = |judged: &Judged| matches!(judged.verdict(), Some(Verdict::Short(_)));
+    let short_late = |child: usize| late(tree, child) && short(&tree.judged(child));
     let too_long = tree.components[place].common_period() == Err(10);
     let all = match tree.judged(place) {
         _ if children.is_empty() => vec![],
         Judged::Waiting => vec![
-            (children.iter().any(|child| matches!(child, Judged::Answered(Verdict::Short(_), ..))), "waiting: a child is short"),
-            (children.iter().any(|child| matches!(child, Judged::Answered(Verdict::None, ..))), "waiting: a child is none"),
+            (children.iter().any(short), "waiting: a child is short"),
+            (children.iter().any(|child| child.verdict() == Some(Verdict::None)), "waiting: a child is none"),
             (children.contains(&Judged::Long), "waiting: a child's common period is too long"),
             (children.contains(&Judged::Waiting), "waiting: a child waits"),
             (too_long, "waiting: and its own common period is too long"),
@@ -182,7 +183,7 @@ pub fn of_place(tree: &Tree, place: usize) -> Vec<&'static str> {
             (too_long, "parent: its common period is too long"),
             (!too_long, "parent: too long by a child's period alone"),
         ],
-        Judged::Answered(verdict, _, margin) => of_judged(tree, place, verdict, margin),
+        Judged::Answered(judgement) => of_judged(tree, place, judgement),
     };
     all.into_iter().filter(|(reached, _)| *reached).map(|(_, what)| what).collect()
 }
@@ -193,7 +194,7 @@ fn late(tree: &Tree, place: usize) -> bool {
 }
 
 /// The same of a parent with a verdict.
-fn of_judged(tree: &Tree, place: usize, verdict: Verdict, margin: Margin) -> Vec<(bool, &'static str)> {
+fn of_judged(tree: &Tree, place: usize, Judgement { verdict, margin, .. }: Judgement) -> Vec<(bool, &'static str)> {
     let (own, children) = (&tree.components[place], tree.children(place));
     let workload = tree.workload(place).expect("it doesn't wait");
     let count = workload.table.count;

@@ -8,7 +8,7 @@ use crate::stored::{multiple, wrong};
 use crate::tree::Tree;
 
 /// What has to be reached by some call.
-pub const REACHED: [&str; 84] = [
+pub const REACHED: [&str; 81] = [
     "17: one more",
     "17: one less",
     "17: 0",
@@ -25,23 +25,20 @@ pub const REACHED: [&str; 84] = [
     "17: any number for the mark",
     "17 before 10 at check_component",
     "17 before 10 at common_period",
-    "17 before 10 at verdict",
-    "17 before 10 at margin",
+    "17 before 10 at judge",
     "17 before 10 at capacity",
     "17 before 15 at remove_task",
     "17 before 11 at write",
     "6 before 17 at check_component",
     "6 before 17 at common_period",
-    "6 before 17 at verdict",
-    "6 before 17 at margin",
+    "6 before 17 at judge",
     "6 before 17 at capacity",
     "6 before 17 at add_task",
     "6 before 17 at remove_task",
     "6 before 17 at write",
     "9 before 17 at check_component",
     "9 before 17 at common_period",
-    "9 before 17 at verdict",
-    "9 before 17 at margin",
+    "9 before 17 at judge",
     "9 before 17 at capacity",
     "9 before 17 at add_task",
     "9 before 17 at add_task, by the new task alone",
@@ -107,8 +104,7 @@ pub fn of_call(call: &Call) -> Vec<String> {
     match call {
         Call::CheckComponent(component) => of_given("check_component", component, judging),
         Call::CommonPeriod(component) => of_given("common_period", component, judging),
-        Call::Verdict(component) => of_given("verdict", component, judging),
-        Call::Margin(component) => of_given("margin", component, judging),
+        Call::Judge(component) => of_given("judge", component, judging),
         Call::Capacity(component) => of_given("capacity", component, judging),
         Call::AddTask(component, task) => {
             let mut all = of_given("add_task", component, |component| add_task(component, *task).err());

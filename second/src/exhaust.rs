@@ -63,18 +63,16 @@ pub fn traces() -> Vec<String> {
     calls
 }
 
-/// Verdict, margin and smallest capacity of every component up to period 3 with at most two tasks up to period 4; and the calls of
-/// `stored`.
+/// Every component up to period 3 with at most two tasks up to period 4 judged, and its smallest capacity; and the calls of `stored`.
 pub fn components() -> Vec<String> {
     let mut calls = vec![];
     for interface in interfaces(3) {
         for table in tables(4) {
             let stated = component_text(&component(interface, Capacity::Stated(interface.capacity), &table));
-            calls.push(format!("verdict {stated}"));
-            calls.push(format!("margin {stated}"));
+            calls.push(format!("judge {stated}"));
             if interface.capacity == 0 {
                 let asked = component_text(&component(interface, Capacity::Asked, &table));
-                calls.extend(["verdict", "margin", "capacity"].map(|kind| format!("{kind} {asked}")));
+                calls.extend(["judge", "capacity"].map(|kind| format!("{kind} {asked}")));
             }
         }
     }
@@ -86,7 +84,7 @@ pub fn components() -> Vec<String> {
 /// from 0 to 13, which is one above the largest that is right, and the mark.
 fn stored() -> Vec<String> {
     let short = |table: &Table| table.tasks.iter().all(|task| task.deadline == 1);
-    let operations = ["check_component IT", "common_period IT", "verdict IT", "margin IT", "capacity IT", "add_task IT 4 1 4 0", "remove_task IT 0", "write IT 50 0"];
+    let operations = ["check_component IT", "common_period IT", "judge IT", "capacity IT", "add_task IT 4 1 4 0", "remove_task IT 0", "write IT 50 0"];
     let mut calls = vec![];
     for period in 1..=3 {
         for table in tables(4).iter().filter(|table| short(table)) {
@@ -115,9 +113,9 @@ pub fn hardest(table: &Table, slots: u64, ready: impl Fn(u64, u64, u64) -> u64) 
     Jobs::of(&jobs)
 }
 
-/// For each of those components its verdict and then walks of its hardest run on the worst trace over two common periods: with the jobs
-/// ready as late as they may be, as early, and in turn at each slot between. By RULES 7 every one of the walks misses at just the
-/// verdict's instant, and nowhere if the verdict is accepted.
+/// Each of those components judged, and then walks of its hardest run on the worst trace over two common periods: with the jobs ready as
+/// late as they may be, as early, and in turn at each slot between. By RULES 7 every one of the walks misses at just the first short
+/// instant, and nowhere if the component is accepted.
 pub fn runs() -> Vec<String> {
     let mut calls = vec![];
     for interface in interfaces(3) {
@@ -131,7 +129,7 @@ pub fn runs() -> Vec<String> {
                 hardest(&table, slots, |earliest, latest, turn| earliest + turn % (latest - earliest + 1)),
             ];
             runs.dedup();
-            calls.push(format!("verdict {}", component_text(&stated)));
+            calls.push(format!("judge {}", component_text(&stated)));
             calls.extend(runs.iter().map(|jobs| walk_text(&table, jobs, &row)));
         }
     }

@@ -2,14 +2,17 @@
 
 use crate::calls::{component_text, jobs_text, plain_text, row_text, table_text, task_text};
 use crate::chance::Chance;
+use crate::demand::demand;
 use crate::nested::{self, Made};
-use crate::numbers::{Capacity, Component, Interface, Table, Task, LIMIT};
+use crate::numbers::{Capacity, Component, Interface, Table, Task, LIMIT, TASKS};
 use crate::run::{Job, Jobs};
 use crate::stored::{self, held};
+use crate::supply::supply;
+use crate::tree::with_tasks;
 use crate::{calls, host, sheet, trace};
 
 /// The kinds of call.
-pub const KINDS: [&str; 29] = [
+pub const KINDS: [&str; 28] = [
     "check_task",
     "check_table",
     "check_interface",
@@ -24,8 +27,7 @@ pub const KINDS: [&str; 29] = [
     "edit",
     "legal",
     "walk",
-    "verdict",
-    "margin",
+    "judge",
     "capacity",
     "sheet",
     "part",
@@ -67,7 +69,7 @@ pub fn call(c: &mut Chance, kind: &str) -> Option<String> {
         "edit" => edit(c),
         "legal" => legal(c),
         "walk" => walk(c),
-        "verdict" | "margin" => component_text(&held(judged_component(c), c)),
+        "judge" => component_text(&held(perhaps_tight_late(c), c)),
         "capacity" => component_text(&held(searched(judged_component(c)), c)),
         "sheet" => row_text(&given_sheet(c)),
         "part" | "read" => {
@@ -290,6 +292,30 @@ fn searched(component: Component) -> Component {
 fn judged_component(c: &mut Chance) -> Component {
     let made = if c.one_in(10) { some_component(c) } else { dividing_component(c) };
     if made.capacity == Capacity::Asked { searched(made) } else { made }
+}
+
+/// A component to be judged; now and then with one more task, whose only job up to L is due at the others' last step instant or behind it and
+/// takes what supply has left there, or a unit less or more. So it may be tight, or short, late and not before.
+fn perhaps_tight_late(c: &mut Chance) -> Component {
+    let made = judged_component(c);
+    let common = made.common_period().unwrap_or(LIMIT);
+    if !c.one_in(4) || common > 2_000 || made.table.count >= TASKS {
+        return made;
+    }
+    let capacity = match made.capacity {
+        Capacity::Stated(units) => units,
+        Capacity::Asked => c.between(0, made.deadline as u64) as u32,
+    };
+    let last = made.table.tasks.iter().map(|task| common - (task.period - task.span()) as u64).max().unwrap_or(1);
+    let between = c.between(last, common);
+    let due = c.pick(&[last, between, common]);
+    let left = supply(&made.interface(capacity), due) as i64 - demand(&made.table, due) as i64;
+    let work = left + c.pick(&[-1, 0, 1, 1]);
+    if work < 1 || work > due as i64 {
+        return made;
+    }
+    let lateness = c.pick(&[0, 0, common - due]);
+    with_tasks(&made, [Task::new(common as u32, work as u32, (due + lateness) as u32).late(lateness as u32)])
 }
 
 fn dividing_component(c: &mut Chance) -> Component {

@@ -1,6 +1,6 @@
 //! The calls of a host in C and their replies (RULES 14).
 
-use crate::judge::Verdict;
+use crate::judge::{Judgement, Verdict};
 use crate::numbers::Refusal;
 use crate::sheet::{self, put, times, Sheet};
 use crate::tree::{Judged, Tree};
@@ -17,9 +17,11 @@ fn reply(number: u16, judged: Judged) -> Result<Vec<u8>, Refusal> {
     let (code, capacity, short, margin) = match judged {
         Judged::Long => return Err(10),
         Judged::Waiting => (3u16, 0, 0, None),
-        Judged::Answered(Verdict::Accepted, capacity, margin) => (0, capacity, 0, margin),
-        Judged::Answered(Verdict::Short(instant), capacity, margin) => (1, capacity, instant as u32, margin),
-        Judged::Answered(Verdict::None, capacity, margin) => (2, capacity, 0, margin),
+        Judged::Answered(Judgement { verdict, capacity, margin }) => match verdict {
+            Verdict::Accepted => (0, capacity, 0, margin),
+            Verdict::Short(instant) => (1, capacity, instant as u32, margin),
+            Verdict::None => (2, capacity, 0, margin),
+        },
     };
     let (margin, instant) = margin.unwrap_or((0, 0));
     let mut bytes = vec![];

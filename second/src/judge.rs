@@ -1,4 +1,4 @@
-//! Verdict, margin and smallest capacity (RULES 7 and 8) by plain search: every instant, every capacity from 0 up.
+//! Judging and the smallest capacity (RULES 7 and 8) by plain search: every instant, every capacity from 0 up.
 
 use crate::demand::demand;
 use crate::numbers::{Capacity, Component, Interface, Refusal, Table};
@@ -13,6 +13,14 @@ pub enum Verdict {
 
 /// A margin with its instant, or none.
 pub type Margin = Option<(i64, u64)>;
+
+/// What judging answers: the verdict, the capacity that it speaks of, which is 0 for none, and the margin at that capacity.
+#[derive(Clone, Copy, Debug, PartialEq, Eq)]
+pub struct Judgement {
+    pub verdict: Verdict,
+    pub capacity: u32,
+    pub margin: Margin,
+}
 
 /// The first short instant, looked for up to L: RULES 7 says that none comes first after L.
 pub fn first_short(interface: &Interface, table: &Table, common: u64) -> Option<u64> {
@@ -47,31 +55,24 @@ pub fn smallest(component: &Component) -> Result<Option<u32>, Refusal> {
     Ok(smallest_capacity(component, common))
 }
 
-/// The verdict and the capacity that it speaks of, 0 for none.
-pub fn verdict(component: &Component) -> Result<(Verdict, u32), Refusal> {
+/// The operation of RULES 11: the stated capacity, or the one found, is judged and measured; without a capacity there is no margin.
+/// Refused with 6, 9, 17, 10. The two parts of the answer are looked for as RULES 7 and RULES 8 say them, each by a loop of its own: one up
+/// to the first short instant, one over all step instants up to L.
+pub fn judge(component: &Component) -> Result<Judgement, Refusal> {
     let common = component.common_period()?;
+    let measured = |verdict, capacity| {
+        let margin = least_margin(&component.interface(capacity), &component.table, common);
+        Judgement { verdict, capacity, margin }
+    };
     Ok(match component.capacity {
         Capacity::Stated(units) => match first_short(&component.interface(units), &component.table, common) {
-            Some(instant) => (Verdict::Short(instant), units),
-            None => (Verdict::Accepted, units),
+            Some(instant) => measured(Verdict::Short(instant), units),
+            None => measured(Verdict::Accepted, units),
         },
         Capacity::Asked => match smallest_capacity(component, common) {
-            Some(units) => (Verdict::Accepted, units),
-            None => (Verdict::None, 0),
+            Some(units) => measured(Verdict::Accepted, units),
+            None => Judgement { verdict: Verdict::None, capacity: 0, margin: None },
         },
-    })
-}
-
-/// The margin, measured at the stated capacity or the one found; none where there are no tasks or no capacity.
-pub fn margin(component: &Component) -> Result<Margin, Refusal> {
-    let common = component.common_period()?;
-    let capacity = match component.capacity {
-        Capacity::Stated(units) => Some(units),
-        Capacity::Asked => smallest_capacity(component, common),
-    };
-    Ok(match capacity {
-        Some(units) => least_margin(&component.interface(units), &component.table, common),
-        None => None,
     })
 }
 
@@ -90,30 +91,31 @@ mod tests {
         Component::new(1, capacity, interface.0, interface.2, table)
     }
 
+    fn said(verdict: Verdict, capacity: u32, margin: Margin) -> Result<Judgement, Refusal> {
+        Ok(Judgement { verdict, capacity, margin })
+    }
+
     #[test]
     fn figures_9_to_11() {
         let nine = component((1, Some(1), 1), &[(4, 2, 4), (7, 3, 7)]);
         assert_eq!(nine.common_period(), Ok(28));
-        assert_eq!(verdict(&nine), Ok((Verdict::Accepted, 1)));
-        assert_eq!(margin(&nine), Ok(Some((1, 8))));
+        assert_eq!(judge(&nine), said(Verdict::Accepted, 1, Some((1, 8))));
         let ten = component((1, Some(1), 1), &[(2, 1, 2), (3, 2, 3)]);
-        assert_eq!(verdict(&ten), Ok((Verdict::Short(6), 1)));
-        assert_eq!(margin(&ten).unwrap().unwrap().0, -1);
+        assert_eq!(judge(&ten), said(Verdict::Short(6), 1, Some((-1, 6))));
         let eleven = component((6, Some(2), 4), &[(8, 2, 7)]);
-        assert_eq!(verdict(&eleven), Ok((Verdict::Short(7), 2)));
-        assert_eq!(margin(&eleven), Ok(Some((-1, 7))));
+        assert_eq!(judge(&eleven), said(Verdict::Short(7), 2, Some((-1, 7))));
     }
 
     /// The figures of the request: (8, 2, 8, J) on (6, 2, 4), and asked with Π 6 and Δ 4.
     #[test]
     fn what_lateness_costs() {
         let of = |capacity, lateness| Component { table: Table::new(vec![Task::new(8, 2, 8).late(lateness)]), ..component((6, capacity, 4), &[(8, 2, 8)]) };
-        let stated = |lateness| (verdict(&of(Some(2), lateness)), margin(&of(Some(2), lateness)));
-        assert_eq!(stated(0), (Ok((Verdict::Accepted, 2)), Ok(Some((0, 8)))));
-        assert_eq!(stated(1), (Ok((Verdict::Short(7), 2)), Ok(Some((-1, 7)))));
-        assert_eq!(stated(2), (Ok((Verdict::Short(6), 2)), Ok(Some((-2, 6)))));
-        assert_eq!(stated(6).0, Ok((Verdict::Short(2), 2)));
-        assert_eq!(stated(7), (Err(9), Err(9)));
+        let stated = |lateness| judge(&of(Some(2), lateness));
+        assert_eq!(stated(0), said(Verdict::Accepted, 2, Some((0, 8))));
+        assert_eq!(stated(1), said(Verdict::Short(7), 2, Some((-1, 7))));
+        assert_eq!(stated(2), said(Verdict::Short(6), 2, Some((-2, 6))));
+        assert_eq!(stated(6).map(|found| (found.verdict, found.capacity)), Ok((Verdict::Short(2), 2)));
+        assert_eq!(stated(7), Err(9));
         let asked: Vec<Option<u32>> = (0..=6).map(|lateness| smallest(&of(None, lateness)).unwrap()).collect();
         assert_eq!(asked, [Some(2), Some(3), Some(3), Some(4), Some(4), None, None]);
     }
@@ -121,8 +123,59 @@ mod tests {
     #[test]
     fn no_tasks_ask_no_capacity_and_have_no_margin() {
         let empty = component((6, None, 4), &[]);
-        assert_eq!(verdict(&empty), Ok((Verdict::Accepted, 0)));
-        assert_eq!(margin(&empty), Ok(None));
+        assert_eq!(judge(&empty), said(Verdict::Accepted, 0, None));
+    }
+
+    /// The processor alone gives a unit a slot, so that supply at t is t.
+    fn alone(tasks: &[(u32, u32, u32)]) -> Result<Judgement, Refusal> {
+        judge(&component((1, Some(1), 1), tasks))
+    }
+
+    /// Up to L = 8 demand steps up at 2, 3, 4, 6 and 8: by 3 a job of (2, 1, 2) and (8, 3, 3) are due, 4 units in 3 slots, and by 4 another
+    /// of (2, 1, 2) and (8, 2, 4), 7 units in 4. Then it gets better: 8 units by 6, 9 by 8. The margins are 1, -1, -3, -2, -1.
+    #[test]
+    fn the_margin_can_stand_behind_the_first_short_instant() {
+        assert_eq!(alone(&[(2, 1, 2), (8, 3, 3), (8, 2, 4)]), said(Verdict::Short(3), 1, Some((-3, 4))));
+    }
+
+    /// Without (8, 2, 4) demand is 1, 4, 5, 6, 7 at those instants, and the margins are 1, -1, -1, 0, 1: the least is there at 3 and at 4.
+    /// With (2, 2, 2) and (6, 2, 3) up to L = 6 demand is 2, 4, 6, 8 at 2, 3, 4, 6, and the margins are 0, -1, -2, -2: the least is there
+    /// at 4 and at 6, both behind the first short instant.
+    #[test]
+    fn of_equal_margins_of_a_short_component_the_first_counts() {
+        assert_eq!(alone(&[(2, 1, 2), (8, 3, 3)]), said(Verdict::Short(3), 1, Some((-1, 3))));
+        assert_eq!(alone(&[(2, 2, 2), (6, 2, 3)]), said(Verdict::Short(3), 1, Some((-2, 4))));
+    }
+
+    /// (8, 1, 3) and (8, 7, 7) up to L = 8: 1 unit by 3 and 8 by 7, and no other step, so the margins are 2 and -1. (4, 1, 4) and (8, 7, 8):
+    /// 1 by 4 and 2 + 7 by 8, which is L, so 3 and -1.
+    #[test]
+    fn the_last_step_instant_can_be_the_first_short_one() {
+        assert_eq!(alone(&[(8, 1, 3), (8, 7, 7)]), said(Verdict::Short(7), 1, Some((-1, 7))));
+        assert_eq!(alone(&[(4, 1, 4), (8, 7, 8)]), said(Verdict::Short(8), 1, Some((-1, 8))));
+    }
+
+    /// With 5 in the place of that 7 the margins are 2 and 1 at 3 and 7; with 4 in the place of the other one 3 and 2 at 4 and 8.
+    #[test]
+    fn the_last_step_instant_can_be_the_tightest_of_an_accepted_component() {
+        assert_eq!(alone(&[(8, 1, 3), (8, 5, 7)]), said(Verdict::Accepted, 1, Some((1, 7))));
+        assert_eq!(alone(&[(4, 1, 4), (8, 4, 8)]), said(Verdict::Accepted, 1, Some((2, 8))));
+    }
+
+    /// Π = Δ = 2 with (8, 1, 5) and (8, 2, 8): 1 unit is due by 5 and 3 by 8. Capacity 0 gives none. Capacity 1 has G = 2 and gives 2 units by
+    /// 5 and 3 by 8, so the margins are 1 and 0. With capacity 2, which is Δ, they are 4 and 5: less at the other instant.
+    #[test]
+    fn an_asked_component_is_measured_at_the_capacity_found() {
+        let tasks = [(8, 1, 5), (8, 2, 8)];
+        assert_eq!(judge(&component((2, None, 2), &tasks)), said(Verdict::Accepted, 1, Some((0, 8))));
+        assert_eq!(judge(&component((2, Some(2), 2), &tasks)), said(Verdict::Accepted, 2, Some((4, 5))));
+        assert_eq!(judge(&component((2, Some(0), 2), &tasks)), said(Verdict::Short(5), 0, Some((-3, 8))));
+    }
+
+    /// (4, 2, 2) with Π = 6 and Δ = 4: (6, 4, 4) has G = 2, so 2 slots are sure of nothing, and no capacity is more than 4.
+    #[test]
+    fn where_no_capacity_is_enough_there_is_no_margin() {
+        assert_eq!(judge(&component((6, None, 4), &[(4, 2, 2)])), said(Verdict::None, 0, None));
     }
 
     /// On the worst trace with the densest arrivals the first miss is exactly at the first short instant, whenever the jobs become ready,

@@ -1,6 +1,6 @@
 //! The listing of a sheet (RULES 15).
 
-use crate::judge::Verdict;
+use crate::judge::{Judgement, Verdict};
 use crate::sheet;
 use crate::tree::{Judged, Tree};
 
@@ -17,10 +17,10 @@ pub fn listing(bytes: &[u8]) -> String {
 }
 
 fn line(own: u16, judged: Judged) -> String {
-    let (verdict, capacity, margin) = match judged {
+    let Judgement { verdict, capacity, margin } = match judged {
         Judged::Waiting => return format!("{own} waiting"),
         Judged::Long => return format!("{own} long"),
-        Judged::Answered(verdict, capacity, margin) => (verdict, capacity, margin),
+        Judged::Answered(judgement) => judgement,
     };
     let measured = margin.map_or("- -".to_string(), |(least, instant)| format!("{least} {instant}"));
     match verdict {

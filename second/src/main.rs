@@ -4,6 +4,7 @@ mod bench;
 mod calls;
 mod chance;
 mod coverage;
+mod coverage_judge;
 mod coverage_late;
 mod coverage_pairs;
 mod coverage_stored;

@@ -176,7 +176,7 @@ impl Run<'_> {
 mod tests {
     use super::*;
     use crate::calls::{answer, parse, Call};
-    use crate::judge::{smallest, verdict, Verdict};
+    use crate::judge::{judge, smallest, Verdict};
     use crate::nested::component;
     use crate::numbers::{Capacity, Component};
     use crate::sheet::Pair;
@@ -218,7 +218,7 @@ mod tests {
     #[test]
     fn a_parent_judged_without_its_child_is_found_out() {
         let components = vec![component(1, (4, Some(2), 4), &[(12, 2, 12)]), component(2, (4, Some(3), 4), &[(4, 2, 4)])];
-        assert!(components.iter().all(|component| matches!(verdict(component), Ok((Verdict::Accepted, _)))));
+        assert!(components.iter().all(|component| judge(component).is_ok_and(|found| found.verdict == Verdict::Accepted)));
         let nest = Nest { components, pairs: vec![Pair { child: 1, parent: 2 }] };
         let mut c = Chance::new(14);
         let found: usize = (0..20).map(|_| counted(&runs(&mut c, &stated_levels(&nest))).1).sum();

@@ -1,6 +1,6 @@
 //! Components inside components (RULES 7): each is judged with its own tasks and its children's interfaces.
 
-use crate::judge::{margin, verdict, Margin, Verdict};
+use crate::judge::{judge, Judgement, Verdict};
 use crate::numbers::{Component, Interface, Task};
 use crate::sheet::{Pair, Sheet};
 use std::cell::OnceCell;
@@ -12,15 +12,22 @@ pub enum Judged {
     Waiting,
     /// The common period of its workload is too long.
     Long,
-    /// The verdict, the capacity that it speaks of, and the margin.
-    Answered(Verdict, u32, Margin),
+    /// What judging it with its workload answers.
+    Answered(Judgement),
 }
 
 impl Judged {
+    pub fn verdict(&self) -> Option<Verdict> {
+        match self {
+            Judged::Answered(judgement) => Some(judgement.verdict),
+            _ => None,
+        }
+    }
+
     /// The capacity of an accepted component.
     pub fn capacity(&self) -> Option<u32> {
         match self {
-            Judged::Answered(Verdict::Accepted, capacity, _) => Some(*capacity),
+            Judged::Answered(Judgement { verdict: Verdict::Accepted, capacity, .. }) => Some(*capacity),
             _ => None,
         }
     }
@@ -41,10 +48,7 @@ pub fn with_tasks(component: &Component, more: impl IntoIterator<Item = Task>) -
 
 /// A workload that doesn't wait, judged.
 pub fn judged(workload: &Component) -> Judged {
-    match (verdict(workload), margin(workload)) {
-        (Ok((verdict, capacity)), Ok(margin)) => Judged::Answered(verdict, capacity, margin),
-        _ => Judged::Long,
-    }
+    judge(workload).map_or(Judged::Long, Judged::Answered)
 }
 
 /// The components of a sheet with their children, each judged when it is first asked for.
@@ -94,8 +98,13 @@ impl Tree {
 #[cfg(test)]
 mod tests {
     use super::*;
+    use crate::judge::Margin;
     use crate::{sheet, text};
     use Verdict::{Accepted, Short};
+
+    fn said(verdict: Verdict, capacity: u32, margin: Margin) -> Judged {
+        Judged::Answered(Judgement { verdict, capacity, margin })
+    }
 
     fn tree(lines: &str) -> Tree {
         Tree::of(&sheet::read(&text::bytes(lines).unwrap()).unwrap())
@@ -113,7 +122,7 @@ mod tests {
     #[test]
     fn two_levels_accepted() {
         let lines = "component 1 stated 6 2 4\ntask 8 2 8\ncomponent 2 stated 1 1 1\ntask 4 2 4\npair 1 2\nend 2";
-        assert_eq!(answers(lines), [Judged::Answered(Accepted, 2, Some((0, 8))), Judged::Answered(Accepted, 1, Some((0, 4)))]);
+        assert_eq!(answers(lines), [said(Accepted, 2, Some((0, 8))), said(Accepted, 1, Some((0, 4)))]);
         assert_eq!(tasks(&tree(lines), 1), [(4, 2, 4), (6, 2, 4)]);
         assert_eq!(tasks(&tree(lines), 0), [(8, 2, 8)]);
     }
@@ -121,7 +130,7 @@ mod tests {
     #[test]
     fn a_short_child_makes_every_level_above_it_wait() {
         let lines = "component 1 stated 6 2 4\ntask 8 2 7\ncomponent 2 stated 1 1 1\ntask 4 2 4\ncomponent 3 stated 1 1 1\npair 1 2\npair 2 3\nend 3";
-        assert_eq!(answers(lines), [Judged::Answered(Short(7), 2, Some((-1, 7))), Judged::Waiting, Judged::Waiting]);
+        assert_eq!(answers(lines), [said(Short(7), 2, Some((-1, 7))), Judged::Waiting, Judged::Waiting]);
         assert_eq!(tree(lines).workload(1), None);
     }
 
@@ -137,9 +146,9 @@ mod tests {
     fn a_child_with_capacity_0_adds_nothing() {
         let lines = "component 1 asked 1048575 9\ncomponent 2 stated 1048573 0 1\ncomponent 3 stated 6 2 4\ntask 8 2 8\npair 1 3\npair 2 3\nend 3";
         assert_eq!(tasks(&tree(lines), 2), [(8, 2, 8)]);
-        assert_eq!(tree(lines).judged(2), Judged::Answered(Accepted, 2, Some((0, 8))));
+        assert_eq!(tree(lines).judged(2), said(Accepted, 2, Some((0, 8))));
         let alone = "component 1 asked 6 4\ncomponent 2 asked 6 4\npair 1 2\nend 2";
-        assert_eq!(answers(alone), [Judged::Answered(Accepted, 0, None); 2]);
+        assert_eq!(answers(alone), [said(Accepted, 0, None); 2]);
     }
 
     /// Component 1 needs 3 of 6 by 4; as the task (6, 3, 4) of component 2 that asks for all of Π = 2: supply of (2, 2, 2) at 4 is
@@ -147,7 +156,7 @@ mod tests {
     #[test]
     fn an_asked_child_uses_the_capacity_found() {
         let lines = "component 1 asked 6 4\ntask 8 2 7\ncomponent 2 asked 2 2\npair 1 2\nend 2";
-        assert_eq!(answers(lines), [Judged::Answered(Accepted, 3, Some((1, 7))), Judged::Answered(Accepted, 2, Some((1, 4)))]);
+        assert_eq!(answers(lines), [said(Accepted, 3, Some((1, 7))), said(Accepted, 2, Some((1, 4)))]);
         assert_eq!(tasks(&tree(lines), 1), [(6, 3, 4)]);
     }
 
@@ -155,8 +164,8 @@ mod tests {
     fn waiting_comes_before_a_common_period_that_is_too_long() {
         let parent = "component 5 stated 3 3 3\ntask 1048576 1 1\npair 4 5\nend 2";
         let below = |child: &str| answers(&format!("component 4 {child}\n{parent}"));
-        assert_eq!(below("asked 6 4\ntask 4 2 2"), [Judged::Answered(Verdict::None, 0, None), Judged::Waiting]);
-        assert_eq!(below("stated 6 4 4\ntask 4 2 2"), [Judged::Answered(Short(2), 4, Some((-2, 2))), Judged::Waiting]);
+        assert_eq!(below("asked 6 4\ntask 4 2 2"), [said(Verdict::None, 0, None), Judged::Waiting]);
+        assert_eq!(below("stated 6 4 4\ntask 4 2 2"), [said(Short(2), 4, Some((-2, 2))), Judged::Waiting]);
         assert_eq!(below("stated 3 3 3\ntask 1048576 1 1"), [Judged::Long, Judged::Waiting]);
         assert_eq!(below("stated 6 2 4\ntask 8 2 8")[1], Judged::Long);
     }
@@ -165,6 +174,6 @@ mod tests {
     fn a_childs_period_counts_in_the_common_period() {
         let lines = "component 1 stated 3 1 3\ncomponent 2 stated 1048576 1 1\npair 1 2\nend 2";
         assert_eq!(answers(lines)[1], Judged::Long);
-        assert_eq!(answers(&lines.replace("pair 1 2\n", ""))[1], Judged::Answered(Accepted, 1, None));
+        assert_eq!(answers(&lines.replace("pair 1 2\n", ""))[1], said(Accepted, 1, None));
     }
 }

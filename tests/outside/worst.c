@@ -94,6 +94,17 @@ static void asked_many(void) {
     end(number);
 }
 
+/* 256 asked components, each with a step at every instant of 16: one task is due at two of them, the 14 others at one each. */
+static void asked_all(void) {
+    for (unsigned number = 0; number < COMPONENTS; number++) {
+        component(number, LIMIT, ASKED, LIMIT);
+        task(8, 1, 8);
+        for (uint32_t deadline = 1; deadline < 16; deadline++)
+            if (deadline != 8) task(16, 1, deadline);
+    }
+    end(COMPONENTS);
+}
+
 static double now(void) {
     struct timespec at;
     if (clock_gettime(CLOCK_THREAD_CPUTIME_ID, &at) != 0) exit(3);
@@ -168,6 +179,7 @@ int main(int argc, char **argv) {
     over |= measure("judge_all, a chain of 256", chain, judge_all, runs);
     over |= measure("judge_all, four parents of 63 children", fan, judge_all, runs);
     over |= measure("judge_all, 63 asked components, once", asked_many, judge_all, 1);
+    over |= measure("judge_all, 256 asked components, once", asked_all, judge_all, 1);
     over |= measure("check, 256 components", last_of_many, check, runs);
     if (over) printf("more than the %d bytes of stack that the header says\n", JOUGSILVER_STACK);
     return over;

@@ -3,8 +3,7 @@ use budget::component::Component;
 use calls::print;
 use calls::shown;
 use calls_judge::shown as judged;
-use judge::answer::Judged;
-use judge::answer::Margined;
+use judge::answer::Answer;
 use judge::answer::Smallest;
 use judge::known;
 use transfer::known as writing;
@@ -14,19 +13,12 @@ fn put_refused(out: &mut [u8], start: usize, refusal: u16) -> usize {
     print::put_said(out, start, b" refused", refusal as u32)
 }
 
-fn put_judged(out: &mut [u8], start: usize, answered: Judged) -> usize {
-    match answered {
-        Judged::Refused(refusal) => put_refused(out, start, refusal),
-        Judged::Answered(capacity, found) => judged::put_verdict(out, start, found, capacity),
+fn put_judged(out: &mut [u8], start: usize, answer: Answer) -> usize {
+    let refusal = judged::refusal_of(answer);
+    if refusal != 0 {
+        return put_refused(out, start, refusal);
     }
-}
-
-fn put_margined(out: &mut [u8], start: usize, answered: Margined) -> usize {
-    match answered {
-        Margined::Refused(refusal) => put_refused(out, start, refusal),
-        Margined::Least(_, _) => judged::put_margin(out, start, answered),
-        Margined::None => judged::put_margin(out, start, answered),
-    }
+    judged::put_answer(out, start, answer)
 }
 
 fn put_smallest(out: &mut [u8], start: usize, answered: Smallest) -> usize {
@@ -56,8 +48,7 @@ pub(crate) fn put_asked(out: &mut [u8], component: Component) -> usize
 {
     let at = print::put_status(out, 0);
     let at = shown::put_component(out, at, component);
-    let at = put_judged(out, at, known::verdict(component));
-    let at = put_margined(out, at, known::margin(component));
+    let at = put_judged(out, at, known::judge(component));
     let at = put_smallest(out, at, known::smallest_capacity(component));
     put_records(out, at, component)
 }

@@ -4,8 +4,7 @@ use calls::rows;
 use calls::shown;
 use calls::words;
 use calls_judge::shown as judged;
-use judge::answer::Judged;
-use judge::answer::Margined;
+use judge::answer::Answer;
 use tree::answer::Load;
 use tree::answer::Outcome;
 use tree::place;
@@ -38,15 +37,13 @@ fn put_loaded(out: &mut [u8], answered: Loaded) -> usize {
     shown::put_component(out, at, component)
 }
 
-fn put_judged(out: &mut [u8], number: u16, answered: Judged, margined: Margined) -> usize {
-    match answered {
-        Judged::Refused(refusal) => put_fault(out, refusal, 0),
-        Judged::Answered(capacity, verdict) => {
-            let at = print::put_said(out, 0, b"ok", number as u32);
-            let at = judged::put_verdict(out, at, verdict, capacity);
-            judged::put_margin(out, at, margined)
-        }
+fn put_judged(out: &mut [u8], number: u16, answer: Answer) -> usize {
+    let refusal = judged::refusal_of(answer);
+    if refusal != 0 {
+        return put_fault(out, refusal, 0);
     }
+    let at = print::put_said(out, 0, b"ok", number as u32);
+    judged::put_answer(out, at, answer)
 }
 
 fn put_outcome(out: &mut [u8], number: u16, outcome: Outcome) -> usize {
@@ -55,7 +52,7 @@ fn put_outcome(out: &mut [u8], number: u16, outcome: Outcome) -> usize {
             let at = print::put_said(out, 0, b"ok", number as u32);
             print::put_text(out, at, b" waiting")
         }
-        Outcome::Judged(answered, margined) => put_judged(out, number, answered, margined),
+        Outcome::Judged(answer) => put_judged(out, number, answer),
     }
 }
 

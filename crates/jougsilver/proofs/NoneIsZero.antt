@@ -15,6 +15,7 @@ use Rattle.judge.specs.declared.answer.Judged.the-variants.{Answered}
 use Rattle.judge.specs.declared.answer.Margined.{Margined}
 use Rattle.judge.specs.declared.answer.Margined.the-variants as NoMargin
 use Rattle.judge.specs.declared.answer.Verdict.the-variants as Variant
+use Rattle.judge.specs.Answer.{answerAt}
 use Rattle.judge.specs.Capacity.{capacityOf}
 use Rattle.judge.specs.Judged.{codeOf, judgedAt, verdictAnswer}
 use Rattle.judge.specs.Margin.{marginOn, marginedAt, marginAnswer}
@@ -26,12 +27,12 @@ stated-never true t e = omega (arith, e)
 stated-never false t e = omega (arith, e)
 
 asked-none : (b : Bool) (u : Units) (m : Margined) (n : ℕ) → codeOf (verdictIn (cond b (Answered u Variant.Accepted) (Answered (record { 0 = 0 }) Variant.None))) ≡ 2
-    → judgedReply n (cond b (Answered u Variant.Accepted) (Answered (record { 0 = 0 }) Variant.None)) (cond b m NoMargin.None) ≡ bareReply n 2
+    → judgedReply n (record { verdict = cond b (Answered u Variant.Accepted) (Answered (record { 0 = 0 }) Variant.None); margin = cond b m NoMargin.None }) ≡ bareReply n 2
 unfolding judgedReply
 asked-none true u m n e = absurd (omega (arith, e))
 asked-none false u m n e = refl
 
-at-none : (c : Component) (k : Capacity) (n : ℕ) → codeOf (verdictIn (judgedAt c k)) ≡ 2 → judgedReply n (judgedAt c k) (marginedAt c k) ≡ bareReply n 2
+at-none : (c : Component) (k : Capacity) (n : ℕ) → codeOf (verdictIn (answerAt c k .verdict)) ≡ 2 → judgedReply n (answerAt c k) ≡ bareReply n 2
 unfolding judgedAt marginedAt verdictOn
 at-none c (Stated u) n e =
     let i = interfaceAt c (u .0) in

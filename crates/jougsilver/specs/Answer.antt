@@ -7,13 +7,14 @@ use lib.Dec.{eqb}
 use Rattle.budget.specs.declared.component.Component.{Component}
 use Rattle.budget.specs.Component.{componentRefusal}
 use Rattle.budget.specs.Refusal as refusal
+use Rattle.judge.specs.declared.answer.Answer.{Answer}
 use Rattle.judge.specs.declared.answer.Judged.{Judged}
 use Rattle.judge.specs.declared.answer.Judged.the-variants.{Refused, Answered}
-use Rattle.judge.specs.declared.answer.Margined.{Margined}
 use Rattle.judge.specs.declared.answer.Verdict.{Verdict}
 use Rattle.judge.specs.declared.answer.Verdict.the-variants as Variant
-use Rattle.judge.specs.Judged.{codeOf, instantOf, verdictAnswer}
-use Rattle.judge.specs.Margin.{marginOf, marginInstantOf, marginAnswer}
+use Rattle.judge.specs.Answer.{judgeAnswer}
+use Rattle.judge.specs.Judged.{codeOf, instantOf}
+use Rattle.judge.specs.Margin.{marginOf, marginInstantOf}
 use Rattle.judge.specs.Signed.{signedBits}
 use Rattle.record.specs.declared.reply.Reply.{Reply}
 use Rattle.transfer.specs.Reply.{replyBytes}
@@ -31,15 +32,15 @@ verdictIn (Refused n) = Variant.None
 verdictIn (Answered u v) = v
 
 -- the fields in the reply's order; a margin instant of 0 stands where there is no margin
-unfoldable pub judgedReply : ℕ → Judged → Margined → Reply
-judgedReply number j m =
+unfoldable pub judgedReply : ℕ → Answer → Reply
+judgedReply number a =
     record {
       number = number;
-      code = codeOf (verdictIn j);
-      capacity = record { 0 = capacityIn j };
-      instant = record { 0 = instantOf (verdictIn j) };
-      margin = signedBits (marginOf m);
-      stands = record { 0 = marginInstantOf m };
+      code = codeOf (verdictIn (a .verdict));
+      capacity = record { 0 = capacityIn (a .verdict) };
+      instant = record { 0 = instantOf (verdictIn (a .verdict)) };
+      margin = signedBits (marginOf (a .margin));
+      stands = record { 0 = marginInstantOf (a .margin) };
     }
 
 -- a number and a code, and zeros behind them
@@ -57,7 +58,7 @@ bareReply number code =
 -- one that waits has code 3
 unfoldable pub replyOf : ℕ → Outcome → Reply
 replyOf number Outcome.Waiting = bareReply number 3
-replyOf number (Outcome.Judged j m) = judgedReply number j m
+replyOf number (Outcome.Judged a) = judgedReply number a
 
 -- the bytes of the reply on a component of this number
 unfoldable pub replyOn : ℕ → Outcome → List ℕ
@@ -70,7 +71,7 @@ refusalIn (Answered u v) = refusal.none
 
 abbrev pub refusalOf : Outcome → ℕ
 refusalOf Outcome.Waiting = refusal.none
-refusalOf (Outcome.Judged j m) = refusalIn j
+refusalOf (Outcome.Judged a) = refusalIn (a .verdict)
 
 -- the component's own refusal comes before that of the room (RULES 13)
 unfoldable pub answerRefusal : Outcome → ℕ → ℕ → ℕ
@@ -79,5 +80,5 @@ answerRefusal o room at = cond (eqb (refusalOf o) refusal.none) (roomRefusal roo
 -- a component that is answered none has a number and a code, and zeros behind them
 abbrev pub NoneIsZero : Type 0
 NoneIsZero =
-    (c : Component) → componentRefusal c ≡ refusal.none → codeOf (verdictIn (verdictAnswer c)) ≡ 2
-    → judgedReply (c .number) (verdictAnswer c) (marginAnswer c) ≡ bareReply (c .number) 2
+    (c : Component) → componentRefusal c ≡ refusal.none → codeOf (verdictIn (judgeAnswer c .verdict)) ≡ 2
+    → judgedReply (c .number) (judgeAnswer c) ≡ bareReply (c .number) 2

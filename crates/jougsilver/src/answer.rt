@@ -2,6 +2,7 @@
 use budget::quantity::Time;
 use budget::quantity::Units;
 use budget::refusal;
+use judge::answer::Answer;
 use judge::answer::Judged;
 use judge::answer::Margined;
 use judge::answer::Verdict;
@@ -83,9 +84,11 @@ fn margin_instant_of(margined: Margined) -> Time
     }
 }
 
-fn judged_reply(number: u16, judged: Judged, margined: Margined) -> Reply
-    ensures { λ r. ⌜ r ≡ judgedReply number judged margined ⌝ }
+fn judged_reply(number: u16, answer: Answer) -> Reply
+    ensures { λ r. ⌜ r ≡ judgedReply number answer ⌝ }
 {
+    let judged = answer.verdict;
+    let margined = answer.margin;
     let verdict = verdict_in(judged);
     let code = code_of(verdict);
     let capacity = capacity_in(judged);
@@ -121,7 +124,7 @@ pub(crate) fn reply_of(number: u16, outcome: Outcome) -> Reply
 {
     match outcome {
         Outcome::Waiting => waiting_reply(number),
-        Outcome::Judged(judged, margined) => judged_reply(number, judged, margined),
+        Outcome::Judged(answer) => judged_reply(number, answer),
     }
 }
 
@@ -131,7 +134,10 @@ pub(crate) fn refusal_of(outcome: Outcome) -> u16
 {
     match outcome {
         Outcome::Waiting => refusal::NONE,
-        Outcome::Judged(judged, _) => refusal_in(judged),
+        Outcome::Judged(answer) => {
+            let judged = answer.verdict;
+            refusal_in(judged)
+        }
     }
 }
 

@@ -1,3 +1,4 @@
+pub mod AnswerLaws
 pub mod CapacityLaws
 pub mod Instants
 pub mod MarginLaws

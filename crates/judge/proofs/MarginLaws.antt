@@ -22,7 +22,7 @@ use Rattle.budget.proofs.SupplyLaws.{supply-zero, supply-le-time}
 use Rattle.budget.proofs.Valid.{ValidInterface, valid-interface}
 use Rattle.judge.specs.declared.margin.Tight.{Tight}
 use Rattle.judge.specs.Margin.{Step, Tightest, tightAt, tried, tightInstant}
-use Rattle.judge.specs.inner.Scan.{Scannable}
+use Rattle.judge.specs.inner.Scan.{Scannable, Small}
 
 -- what the walk has shown before `at`: the tightest of all instants up to any from the last one passed on
 pub record Best (ks : List Task) (i : Interface) (n at : ℕ) (best : Tight) : Type 0 where
@@ -177,28 +177,24 @@ module _ (ks : List Task) (i : Interface) where
   pub tight-within : (n : ℕ) → tightInstant ks i n ≤ n
   tight-within n = ⊎-elim (λ k. omega (arith, k .0)) (λ t. t .within) (tight-known n)
 
-  -- demand and supply of the tightest so far are small
+  -- demand and supply of an instant up to the limit are small, so those of the tightest so far are
   pub demand-small : validTasks ks ≡ true → length ks ≤ most-tasks → (t : ℕ) → t ≤ limit → demand ks t ≤ most-tasks * (2 * limit)
   demand-small v few t h = le-trans (demand-bound ks v t) (mul-le-mul {m₂ = 2 * limit} few (omega arith))
 
-  pub best-small : validTasks ks ≡ true → ValidInterface i → length ks ≤ most-tasks → (n at : ℕ) (best : Tight) → n ≤ limit → Best ks i n at best
-      → (best .demand ≤ most-tasks * (2 * limit)) × (best .units ≤ limit)
+  small-at : validTasks ks ≡ true → ValidInterface i → length ks ≤ most-tasks → (t : ℕ) → t ≤ limit → Small (tightAt ks i t)
   unfolding tightAt
-  best-small v w few n at best h b =
-      let is = b .tight (b .last) (omega arith) (b .passed) in
-      let m : tightInstant ks i (b .last) ≤ limit = omega (arith, tight-within (b .last), b .reached) in (
-        le-trans (le-of-eq (ap (λ (x : Tight). x .demand) is)) (demand-small v few (tightInstant ks i (b .last)) m),
-        le-trans (le-of-eq (ap (λ (x : Tight). x .units) is)) (le-trans (supply-le-time i w (tightInstant ks i (b .last))) m),
-      )
+  small-at v w few t h = record { units = le-trans (supply-le-time i w t) h; demand = demand-small v few t h }
 
--- the numbers of the tightest instant of a table's tasks are small enough to be read as signed
+  pub best-small : validTasks ks ≡ true → ValidInterface i → length ks ≤ most-tasks → (n at : ℕ) (best : Tight) → n ≤ limit → Best ks i n at best → Small best
+  best-small v w few n at best h b =
+      subst Small (sym (b .tight (b .last) (omega arith) (b .passed)))
+      (small-at v w few (tightInstant ks i (b .last)) (omega (arith, tight-within (b .last), b .reached)))
+
+-- and so are those of the tightest instant of a table's tasks
 pub tight-small : (table : Table) (i : Interface) (n : ℕ) (best : Tight) → Scannable table i n → best ≡ tightAt (tasksOf table) i (tightInstant (tasksOf table) i n)
-    → (best .units ≤ limit) × (best .demand ≤ most-tasks * (2 * limit))
-unfolding tightAt tasksOf
+    → Small best
+unfolding tasksOf
 tight-small table i n best s is =
     let ks = tasksOf table in
-    let m : tightInstant ks i n ≤ limit = le-trans (tight-within ks i n) (s .bounded) in
-    let few : length ks ≤ most-tasks = omega (arith, length-take (table .count) (table .tasks), s .few) in (
-      le-trans (le-of-eq (ap (λ (x : Tight). x .units) is)) (le-trans (supply-le-time i (valid-interface i (s .interface)) (tightInstant ks i n)) m),
-      le-trans (le-of-eq (ap (λ (x : Tight). x .demand) is)) (demand-small ks i (s .tasks) few (tightInstant ks i n) m),
-    )
+    let few : length ks ≤ most-tasks = omega (arith, length-take (table .count) (table .tasks), s .few) in
+    subst Small (sym is) (small-at ks i (s .tasks) (valid-interface i (s .interface)) few (tightInstant ks i n) (le-trans (tight-within ks i n) (s .bounded)))

@@ -1,8 +1,10 @@
--- The first short instant: what a scan has shown of the instants passed, what it answers where it stops, and why the instants up to L decide.
-use Prim.Native.Nat.{ℕ, zero, suc, _≤_, _<_, suc-le-suc}
-use mathlib.Core.Path.{_≡_, refl, ap}
+-- The first short instant: what a scan has shown of the instants passed, what it has found in the end, and why the instants up to L decide.
+use Prim.Native.Nat.{ℕ, zero, suc, min, _+_, _≤_, _<_, suc-le-suc}
+use mathlib.Core.Path.{_≡_, refl, sym, _∙_, ap, subst}
+use mathlib.Core.Logic.{_⊎_, inl, inr}
 use mathlib.Core.Bool.{Bool, true, false, cond}
 use mathlib.Core.List.{List}
+use lib.Dec.{ltb}
 use borrow.Author.Tests.{lt-ltb, le-ltb, ltb-true, ltb-false}
 use native.Mathlib.Decide.{decLe}
 use native.Mathlib.Nat.{le-trans, le-of-eq, le-antisymm, not-le-of-lt, lt-of-not-le, le-of-suc-le-suc}
@@ -15,12 +17,13 @@ use Rattle.budget.specs.Interface.{Π}
 use Rattle.budget.specs.Supply.{supply}
 use Rattle.budget.specs.Task.{validTasks}
 use Rattle.budget.proofs.CommonPeriodLaws.{common-positive, common-divides-at}
-use Rattle.budget.proofs.DemandLaws.{demand-shift}
+use Rattle.budget.proofs.DemandLaws.{demand-zero, demand-shift}
 use Rattle.budget.proofs.SupplyLaws.{supply-mono, supply-add}
 use Rattle.budget.proofs.Valid.{ValidInterface}
 use Rattle.judge.specs.declared.answer.Verdict.{Verdict}
 use Rattle.judge.specs.declared.answer.Verdict.the-variants as Variant
 use Rattle.judge.specs.Verdict.{Accepted, ShortAt, Judgement, isShort, firstShort, accepts, verdictOn}
+use Rattle.judge.specs.inner.Tried.{shortTried, soonerShort}
 use Rattle.judge.proofs.Instants.{enough}
 use Rattle.judge.proofs.SearchLaws.{smallest-is, smallest-only}
 
@@ -41,7 +44,7 @@ module _ (ks : List Task) (i : Interface) where
       split (yes g) = le-trans (le-of-eq (still u g h)) (le-trans here (supply-mono i v at u g))
       split (no g) = before u l (omega arith)
 
-  -- the scan stops past n, or at a short instant
+  -- the instants up to n have been passed, or a short one is met
   pub first-short-none : (n at : ℕ) → FitsBefore ks i at → n < at → firstShort ks i n ≡ suc n
   unfolding firstShort isShort
   first-short-none n at before h =
@@ -56,6 +59,53 @@ module _ (ks : List Task) (i : Interface) where
       ap suc
       (smallest-only _ n t
       (record { within = omega arith; before = λ j l. le-ltb _ _ (before (suc j) (omega arith) (omega arith)); passes = λ l. lt-ltb _ _ short }))
+
+  -- what a scan up to n has shown before `at`: every instant fits, or the first short one is found
+  abbrev pub Sought : ℕ → ℕ → ℕ → Type 0
+  Sought n at short = ((short ≡ suc n) × FitsBefore ks i at) ⊎ ((short < at) × (firstShort ks i n ≡ short))
+
+  pub sought-start : (n : ℕ) → Sought n 1 (n + 1)
+  sought-start n = inl (omega arith, fits-start)
+
+  pub sought-end : (n at short : ℕ) → n < at → Sought n at short → short ≡ firstShort ks i n
+  sought-end n at short h (inl w) = w .0 ∙ sym (first-short-none n at (w .1) h)
+  sought-end n at short h (inr w) = sym (w .1)
+
+  module _ (v : validTasks ks ≡ true) (w : ValidInterface i) where
+    -- an instant at which demand stands still fits as the one before it does
+    fits-still : (p : ℕ) → FitsBefore ks i (suc p) → demand ks (suc p) ≤ demand ks p → demand ks (suc p) ≤ supply i (suc p)
+    fits-still zero before h = omega (arith, demand-zero ks v)
+    fits-still (suc p) before h = omega (arith, before (suc p) (omega arith) (omega arith), supply-mono i w (suc p) (suc (suc p)) (omega arith))
+
+    -- one instant more; `before` and `asked` are the demand at p and at the instant after it
+    module _ (n p next before asked short : ℕ) (was : before ≡ demand ks p) (now : asked ≡ demand ks (suc p)) (h : suc p ≤ n) (later : suc p < next)
+        (still : (u : ℕ) → suc p ≤ u → u < next → demand ks u ≡ demand ks (suc p)) where
+      fits-next : (short ≡ suc n) × FitsBefore ks i (suc p) → asked ≤ supply i (suc p) → Sought n next short
+      fits-next s f = inl (s .0, fits-on w (suc p) next (s .1) (le-trans (le-of-eq (sym now)) f) still)
+
+      sought-on : (a b : Bool) → ltb before asked ≡ a → ltb (supply i (suc p)) asked ≡ b → Sought n (suc p) short → Sought n next (cond a (cond b (min short (suc p)) short) short)
+      sought-on false b e f (inl s) = fits-next s (omega (arith, was, now, fits-still p (s .1) (omega (arith, was, now, ltb-false before asked e))))
+      sought-on true false e f (inl s) = fits-next s (ltb-false (supply i (suc p)) asked f)
+      sought-on true true e f (inl s) =
+          let here : min short (suc p) ≡ suc p = omega (arith, s .0) in
+          inr (omega arith, first-short-here n (suc p) (omega arith) h (s .1) (omega (arith, now, ltb-true (supply i (suc p)) asked f)) ∙ sym here)
+      sought-on false b e f (inr s) = inr (omega (arith, s .0), s .1)
+      sought-on true false e f (inr s) = inr (omega (arith, s .0), s .1)
+      sought-on true true e f (inr s) =
+          let kept : min short (suc p) ≡ short = omega (arith, s .0) in
+          inr (omega (arith, s .0), s .1 ∙ sym kept)
+
+    pub sought-next : (n p at next before asked short r : ℕ) → at ≡ suc p → before ≡ demand ks p → asked ≡ demand ks at → at ≤ n → at < next
+        → ((u : ℕ) → at ≤ u → u < next → demand ks u ≡ demand ks at) → r ≡ shortTried short i at before asked → Sought n at short → Sought n next r
+    unfolding shortTried soonerShort
+    sought-next n p at next before asked short r is was now h later still e s =
+        subst (λ (x : ℕ). Sought n next x) (sym e)
+        (subst
+        (λ (a : ℕ). asked ≡ demand ks a → a ≤ n → a < next → ((u : ℕ) → a ≤ u → u < next → demand ks u ≡ demand ks a) → Sought n a short
+        → Sought n next (cond (ltb before asked) (cond (ltb (supply i a) asked) (min short a) short) short))
+        (sym is)
+        (λ now′ h′ later′ still′ s′. sought-on n p next before asked short was now′ h′ later′ still′ (ltb before asked) (ltb (supply i (suc p)) asked) refl refl s′)
+        now h later still s)
 
   -- the first short instant up to n, if there is one, is short and the first
   first-short-within : (n : ℕ) → 1 ≤ firstShort ks i n

@@ -1,4 +1,4 @@
--- What judging a component answers, for a capacity stated or asked (RULES 7).
+-- The verdict's part of what judging a component answers, for a capacity stated or asked (RULES 7).
 use Prim.Native.Nat.{ℕ}
 use mathlib.Core.Bool.{cond}
 use lib.Dec.{leb, eqb}
@@ -35,6 +35,6 @@ judgedAt c Asked =
     (Answered (record { 0 = capacityOf c }) Variant.Accepted)
     (Answered (record { 0 = 0 }) Variant.None)
 
--- what the operation answers: the refusal, or the capacity and the verdict
+-- that part of the operation's answer: the refusal, or the capacity and the verdict
 unfoldable pub verdictAnswer : Component → Judged
 verdictAnswer c = cond (eqb (componentRefusal c) refusal.none) (judgedAt c (c .capacity)) (Refused (componentRefusal c))

@@ -1,3 +1,4 @@
+pub mod Answer
 pub mod Capacity
 pub mod Judged
 pub mod Margin

@@ -69,7 +69,7 @@ marginedAt c Asked =
     (marginOn (tasksOf (c .table)) (interfaceAt c (capacityOf c)) (commonPeriodOf c))
     Variant.None
 
--- what the operation answers: the refusal, the least margin and its instant, or none
+-- the margin's part of the operation's answer: the refusal, the least margin and its instant, or none
 unfoldable pub marginAnswer : Component → Margined
 marginAnswer c = cond (eqb (componentRefusal c) refusal.none) (marginedAt c (c .capacity)) (Variant.Refused (componentRefusal c))
 

@@ -3,3 +3,4 @@ pub mod MarginSays
 pub mod Raise
 pub mod Scan
 pub mod Steps
+pub mod Tried

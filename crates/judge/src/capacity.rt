@@ -58,7 +58,7 @@ fn raised(period: Time, from: u32, deadline: Time, at: u32, demand: u32) -> u32
 }
 
 // The smallest capacity from 0 to the deadline that fits at every instant up to `length`, or the deadline + 1. Supply grows with the capacity, so what
-// each step instant needs is taken one by one.
+// each step instant needs is taken one by one; the walk stops at the first that needs more than the deadline.
 pub(crate) fn least_capacity(table: Table, period: Time, deadline: Time, length: u32) -> u32
     requires { ⌜ Scannable table (interface (period .0) 0 (deadline .0)) length ⌝ }
     ensures { λ r. ⌜ r ≡ smallestCapacity (tasksOf table) (period .0) (deadline .0) length ⌝ }
@@ -71,16 +71,19 @@ pub(crate) fn least_capacity(table: Table, period: Time, deadline: Time, length:
     let mut demand = 0;
     let mut at = 1;
     let mut capacity = 0;
-    while at <= length {
+    let found = 'instants: loop {
+        if length < at {
+            break 'instants capacity;
+        }
         let step = pass(&periods, &works, &mut due, table.count, at, demand);
         demand = step.demand;
         capacity = raised(period, capacity, deadline, at, demand);
         if last < capacity {
-            return capacity;
+            break 'instants capacity;
         }
         at = step.next;
-    }
-    capacity
+    };
+    found
 }
 
 // The smallest capacity for a component whose common period was asked for.

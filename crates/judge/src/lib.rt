@@ -1,8 +1,10 @@
-// Verdict, margin and smallest capacity.
+// Verdict and margin in a single call, and the smallest capacity.
 pub mod answer;
 pub mod capacity;
+pub mod judging;
 pub mod known;
-pub mod margin;
+mod margin;
+mod scan;
 pub mod signed;
 mod steps;
-pub mod verdict;
+mod verdict;

@@ -19,7 +19,7 @@ pub struct Step {
 }
 
 // The earlier of two instants.
-fn earlier(a: u32, b: u32) -> u32
+pub(crate) fn earlier(a: u32, b: u32) -> u32
     ensures { λ r. ⌜ r ≡ min a b ⌝ }
 {
     if a < b {

@@ -11,12 +11,11 @@ use Rattle.budget.specs.Component.{interfaceAt, withTasks}
 use Rattle.budget.specs.Refusal as refusal
 use Rattle.budget.specs.Task.{tasksOf}
 use Rattle.budget.proofs.TableLaws.{tasks-of-table}
-use Rattle.judge.specs.declared.answer.Judged.{Judged}
+use Rattle.judge.specs.declared.answer.Answer.{Answer}
 use Rattle.judge.specs.declared.answer.Judged.the-variants.{Answered}
-use Rattle.judge.specs.declared.answer.Margined.{Margined}
 use Rattle.judge.specs.declared.answer.Verdict.the-variants as Verdict
+use Rattle.judge.specs.Answer.{judgeAnswer}
 use Rattle.judge.specs.Judged.{verdictAnswer}
-use Rattle.judge.specs.Margin.{marginAnswer}
 use Rattle.promises.proofs.Demand3.{demand-3}
 use Rattle.record.specs.Field.{Bytes}
 use Rattle.sheet.specs.Check.{check}
@@ -37,17 +36,17 @@ use Rattle.nesting.proofs.Loaded.{Loaded, loaded}
 -- ---- one component of a taken sheet
 
 -- what is judged doesn't wait
-judged-ready : (b : Bool) (o : Outcome) (j : Judged) (m : Margined) → cond b Outcome.Waiting o ≡ Outcome.Judged j m → b ≡ false
-judged-ready true o j m e = absurd (let z : _≡_ {A = ℕ} 0 1 = cc e in omega arith)
-judged-ready false o j m e = refl
+judged-ready : (b : Bool) (o : Outcome) (a : Answer) → cond b Outcome.Waiting o ≡ Outcome.Judged a → b ≡ false
+judged-ready true o a e = absurd (let z : _≡_ {A = ℕ} 0 1 = cc e in omega arith)
+judged-ready false o a e = refl
 
 module _ (s : List ℕ) (bytes : Bytes s) (taken : check s .refusal ≡ refusal.none) where
   loaded-at : (k : ℕ) → AcceptedAt s k → Loaded s k
   unfolding outcomeAt outcomeOf
-  loaded-at k a = loaded s bytes taken k (a .inside) (judged-ready (loadAt s k .waiting) _ _ _ (a .outcome))
+  loaded-at k a = loaded s bytes taken k (a .inside) (judged-ready (loadAt s k .waiting) _ _ (a .outcome))
 
   -- what is answered of a component that doesn't wait
-  answered-is : (k : ℕ) → Loaded s k → outcomeAt s k ≡ Outcome.Judged (verdictAnswer (loadedAt s k)) (marginAnswer (loadedAt s k))
+  answered-is : (k : ℕ) → Loaded s k → outcomeAt s k ≡ Outcome.Judged (judgeAnswer (loadedAt s k))
   unfolding outcomeAt outcomeOf
   answered-is k w = ap outcomeOf (w .load)
 
@@ -55,9 +54,8 @@ module _ (s : List ℕ) (bytes : Bytes s) (taken : check s .refusal ≡ refusal.
   unfolding capacityAt offerOf withTasks
   fit-in-tree k a =
       let q = a .capacity in
-      let same : Outcome.Judged (verdictAnswer (loadedAt s k)) (marginAnswer (loadedAt s k)) ≡ Outcome.Judged (Answered q Verdict.Accepted) (a .margin) =
-      sym (answered-is k (loaded-at k a)) ∙ a .outcome in
-      let v : verdictAnswer (loadedAt s k) ≡ Answered q Verdict.Accepted = cc in
+      let same : judgeAnswer (loadedAt s k) ≡ record { verdict = Answered q Verdict.Accepted; margin = a .margin } = cc (sym (answered-is k (loaded-at k a)) ∙ a .outcome) in
+      let v : verdictAnswer (loadedAt s k) ≡ Answered q Verdict.Accepted = ap (λ (x : Answer). x .verdict) same in
       let granted : capacityAt s k ≡ q .0 = ap (λ (o : Outcome). offerOf (reading s k .component) o .capacity) (a .outcome) in
       subst (λ (ks : List Task). Fit ks (treeOf s .interface k)) (tasks-of-table (workload (treeOf s) k))
       (subst (λ (r : ℕ). Fit (tasksOf (loadedAt s k .table)) (interfaceAt (reading s k .component) r)) (sym granted) (fit (loadedAt s k) q v))
@@ -93,6 +91,6 @@ nested-demand-3 s bytes taken k inside c load none =
     record {
       loaded = is;
       tasks = ap (λ (x : Component). tasksOf (x .table)) is ∙ tasks-of-table (workload (treeOf s) k);
-      outcome = answered-is s bytes taken k w ∙ ap (λ (x : Component). Outcome.Judged (verdictAnswer x) (marginAnswer x)) (sym is);
+      outcome = answered-is s bytes taken k w ∙ ap (λ (x : Component). Outcome.Judged (judgeAnswer x)) (sym is);
       promise = demand-3 c none .0;
     }

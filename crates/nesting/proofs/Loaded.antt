@@ -1,7 +1,7 @@
 -- The workload that the component at a place of a taken sheet is judged with is the tree's, pair by pair, and where it doesn't wait each of its
 -- children is accepted.
 use Prim.Native.Nat.{ℕ, zero, suc, _<_}
-use mathlib.Core.Bool.{Bool, true, false, cond, not, false≢true}
+use mathlib.Core.Bool.{Bool, true, false, cond, false≢true}
 use mathlib.Core.List.{List, [], _∷_, _++_, map}
 use mathlib.Core.Path.{_≡_, refl, sym, ap, subst, _∙_}
 use native.Mathlib.Omega.{arith}
@@ -16,7 +16,9 @@ use Rattle.budget.specs.Limits.{most-tasks}
 use Rattle.budget.specs.Refusal as refusal
 use Rattle.budget.specs.Task.{tasksOf}
 use Rattle.budget.proofs.Valid.{both}
+use Rattle.judge.specs.declared.answer.Judged.{Judged}
 use Rattle.judge.specs.declared.answer.Judged.the-variants.{Answered, Refused}
+use Rattle.judge.specs.declared.answer.Margined.{Margined}
 use Rattle.judge.specs.declared.answer.Verdict.the-variants as Verdict
 use Rattle.record.specs.declared.layout.Pair.{Pair}
 use Rattle.record.specs.Field.{Bytes}
@@ -27,7 +29,7 @@ use Rattle.tree.specs.declared.answer.Outcome.{Outcome}
 use Rattle.tree.specs.declared.answer.Outcome.the-variants as Outcome
 use Rattle.tree.specs.declared.offer.Offer.{Offer}
 use Rattle.tree.specs.Nested.{childrenAt}
-use Rattle.tree.specs.Offer.{isOffered, offerIn, offerOf, withheld}
+use Rattle.tree.specs.Offer.{isOffered, offerIn, offerOf, offeredOn}
 use Rattle.tree.specs.Tree.{loadAt, offersTo, outcomeAt}
 use Rattle.tree.specs.Workload.{allOffered, children, loadOn, ready, tasksFrom, waiting}
 use Rattle.tree.specs.Workload as Workload
@@ -37,17 +39,21 @@ use Rattle.nesting.specs.Tree.{Child, asTask, fed, workload}
 use Rattle.nesting.proofs.Places.{ChildFound, child-found, numberAt, offerAt}
 
 -- a component that offers a capacity is accepted
-offered-by : (s : List ℕ) (k : ℕ) → k < check s .count → (o : Outcome) → outcomeAt s k ≡ o → not (eqb (offerOf (reading s k .component) o .capacity) withheld) ≡ true → AcceptedAt s k
-unfolding offerOf
-offered-by s k h Outcome.Waiting e f = absurd (false≢true f)
-offered-by s k h (Outcome.Judged (Refused n) m) e f = absurd (false≢true f)
-offered-by s k h (Outcome.Judged (Answered q Verdict.Accepted) m) e f = record { inside = h; capacity = q; margin = m; outcome = e }
-offered-by s k h (Outcome.Judged (Answered q (Verdict.Short t)) m) e f = absurd (false≢true f)
-offered-by s k h (Outcome.Judged (Answered q Verdict.None) m) e f = absurd (false≢true f)
+module _ (s : List ℕ) (k : ℕ) (h : k < check s .count) where
+  judged-by : (j : Judged) (m : Margined) → outcomeAt s k ≡ Outcome.Judged (record { verdict = j; margin = m }) → isOffered (offeredOn (reading s k .component) j) ≡ true → AcceptedAt s k
+  judged-by (Refused n) m e f = absurd (false≢true f)
+  judged-by (Answered q Verdict.Accepted) m e f = record { inside = h; capacity = q; margin = m; outcome = e }
+  judged-by (Answered q (Verdict.Short t)) m e f = absurd (false≢true f)
+  judged-by (Answered q Verdict.None) m e f = absurd (false≢true f)
 
-offered-accepted : (s : List ℕ) (k : ℕ) → k < check s .count → isOffered (offerAt s k) ≡ true → AcceptedAt s k
-unfolding capacityAt
-offered-accepted s k h f = offered-by s k h (outcomeAt s k) refl f
+  offered-by : (o : Outcome) → outcomeAt s k ≡ o → isOffered (offerOf (reading s k .component) o) ≡ true → AcceptedAt s k
+  unfolding offerOf
+  offered-by Outcome.Waiting e f = absurd (false≢true f)
+  offered-by (Outcome.Judged a) e f = judged-by (a .verdict) (a .margin) e f
+
+  offered-accepted : isOffered (offerAt s k) ≡ true → AcceptedAt s k
+  unfolding capacityAt
+  offered-accepted f = offered-by (outcomeAt s k) refl f
 
 -- a child adds its task exactly where it has a capacity
 added : (f : ℕ → Task) (k q : ℕ) (later : List ℕ) → cond (eqb q 0) (map f later) (f k ∷ map f later) ≡ map f (cond (leb 1 q) (k ∷ later) later)

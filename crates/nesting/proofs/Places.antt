@@ -12,8 +12,6 @@ use borrow.Author.Tests.{eq-eqb, ne-eqb}
 use Rattle.budget.specs.declared.component.Component.{Component}
 use Rattle.budget.specs.Component.{refused}
 use Rattle.budget.specs.Refusal as refusal
-use Rattle.judge.specs.declared.answer.Judged.the-variants.{Answered, Refused}
-use Rattle.judge.specs.declared.answer.Verdict.the-variants as Verdict
 use Rattle.record.specs.declared.layout.Pair.{Pair}
 use Rattle.record.specs.Field.{Bytes}
 use Rattle.sheet.specs.Check.{check, pairsOf}
@@ -22,24 +20,14 @@ use Rattle.transfer.specs.Pairing.{noPair}
 use Rattle.transfer.specs.Reading.{reading}
 use Rattle.transfer.specs.RoundTrip.{entriesOf}
 use Rattle.transfer.proofs.Sheet.{Sheet, accepted-sheet}
-use Rattle.tree.specs.declared.answer.Outcome.{Outcome}
-use Rattle.tree.specs.declared.answer.Outcome.the-variants as Outcome
 use Rattle.tree.specs.declared.offer.Offer.{Offer}
-use Rattle.tree.specs.Offer.{noOffer, offerIn, offerOf, offering}
+use Rattle.tree.specs.Offer.{noOffer, offerIn, offering}
 use Rattle.tree.specs.Tree.{loadAt, offersTo, outcomeAt}
+use Rattle.tree.proofs.BelowLaws.{offer-is}
 use Rattle.tree.proofs.NumberLaws.{StandsAt, numbers-rise, registered-stands}
 use Rattle.nesting.specs.InSheet.{capacityAt, placeAmong}
 
 -- ---- offers by their places
-
--- what a component offers differs from its interface in the capacity alone
-pub offer-is : (c : Component) (o : Outcome) → offerOf c o ≡ offering c (offerOf c o .capacity)
-unfolding offerOf
-offer-is c Outcome.Waiting = refl
-offer-is c (Outcome.Judged (Refused n) m) = refl
-offer-is c (Outcome.Judged (Answered q Verdict.Accepted) m) = refl
-offer-is c (Outcome.Judged (Answered q (Verdict.Short t)) m) = refl
-offer-is c (Outcome.Judged (Answered q Verdict.None) m) = refl
 
 -- the first offer of a number
 first-found : (os : List Offer) (p n : ℕ) → p < length os → getD os p noOffer .number ≡ n → ((q : ℕ) → q < p → getD os q noOffer .number ≡ n → ⊥)

@@ -102,7 +102,7 @@ parent-is = ap (λ (x : Reading). x .component) (reading-back Figure.components 
 
 -- accepted with this capacity, and the margin is 0 at an instant
 abbrev accepted : ℕ → ℕ → Outcome
-accepted q t = Outcome.Judged (Answered (record { 0 = q }) Verdict.Accepted) (Margin.Least (pos 0) (record { 0 = t }))
+accepted q t = Outcome.Judged (record { verdict = Answered (record { 0 = q }) Verdict.Accepted; margin = Margin.Least (pos 0) (record { 0 = t }) })
 
 abbrev offers : List Offer
 offers = offering child 2 ∷ []

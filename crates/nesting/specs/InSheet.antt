@@ -14,8 +14,8 @@ use Rattle.budget.specs.Task.{tasksOf}
 use Rattle.judge.specs.declared.answer.Judged.the-variants.{Answered}
 use Rattle.judge.specs.declared.answer.Margined.{Margined}
 use Rattle.judge.specs.declared.answer.Verdict.the-variants as Verdict
+use Rattle.judge.specs.Answer.{judgeAnswer}
 use Rattle.judge.specs.Judged.{verdictAnswer}
-use Rattle.judge.specs.Margin.{marginAnswer}
 use Rattle.trace.specs.Legal.{Legal, zerosAndOnes}
 use Rattle.promises.specs.Demand3.{Promise}
 use Rattle.record.specs.declared.layout.Pair.{Pair}
@@ -64,7 +64,7 @@ pub record AcceptedAt (s : List ℕ) (k : ℕ) : Type 0 where
   pub inside : k < check s .count
   pub capacity : Units
   pub margin : Margined
-  pub outcome : outcomeAt s k ≡ Outcome.Judged (Answered capacity Verdict.Accepted) margin
+  pub outcome : outcomeAt s k ≡ Outcome.Judged (record { verdict = Answered capacity Verdict.Accepted; margin = margin })
 
 -- the component at a place with its tree's workload as its tasks, and the common period of all of them
 abbrev pub loadedAt : List ℕ → ℕ → Component
@@ -86,7 +86,7 @@ ServiceInSheet = (s : List ℕ) → Bytes s → check s .refusal ≡ refusal.non
 pub record NestedPromise (s : List ℕ) (k : ℕ) (c : Component) : Type 0 where
   pub loaded : c ≡ loadedAt s k
   pub tasks : tasksOf (c .table) ≡ workload (treeOf s) k
-  pub outcome : outcomeAt s k ≡ Outcome.Judged (verdictAnswer c) (marginAnswer c)
+  pub outcome : outcomeAt s k ≡ Outcome.Judged (judgeAnswer c)
   pub promise : Promise c (c .capacity) (verdictAnswer c)
 
 -- of every component of a taken sheet that doesn't wait and whose workload is not refused

@@ -40,7 +40,7 @@ use Rattle.judge.specs.inner.MarginSays.{MarginSays}
 use Rattle.judge.proofs.MarginRight.{margin-later, margin-negative, margin-right, no-tasks-no-margin, one-margin, tasks-have-margin}
 use Rattle.judge.proofs.VerdictLaws.{one-verdict, short-within, verdict-right}
 use Rattle.judge.proofs.Whole.{answer-given, answer-refused, in-range-at, stated-fits}
-use Rattle.promises.specs.Judging.{AnsweredNone, AnsweredShort, ExactMargin, MarginExact, MarginNegative, NegativeExactlyShort, NoLaterSmaller, OneVerdict, RefusedAlike, VerdictExact}
+use Rattle.promises.specs.Judging.{AnsweredNone, AnsweredShort, ExactMargin, MarginExact, MarginNegative, NegativeExactlyShort, NoLaterSmaller, OneCall, OneVerdict, RefusedAlike, VerdictExact}
 use Rattle.promises.proofs.Capacity.{least-accepted}
 
 -- the verdict and the margin at the capacity q are what is answered
@@ -248,6 +248,9 @@ no-later-smaller c e q a m t h =
     (λ j. later c q (subst (JudgedAt c) (verdict-is c (j .0) (j .1) q _ a .0) (j .1)) a m t h)
     (λ none. absurd (let z : _≡_ {A = ℕ} 0 1 = cc in omega arith))
     (outcome c e)
+
+pub one-call : OneCall
+one-call c a = (λ e. rw e (refl, refl), λ h. rw (← (h .0), ← (h .1)))
 
 pub refused-alike : RefusedAlike
 unfolding verdictAnswer marginAnswer capacityAnswer

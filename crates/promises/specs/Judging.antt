@@ -16,11 +16,13 @@ use Rattle.budget.specs.Demand.{demand}
 use Rattle.budget.specs.Refusal as refusal
 use Rattle.budget.specs.Supply.{supply}
 use Rattle.budget.specs.Task.{tasksOf}
+use Rattle.judge.specs.declared.answer.Answer.{Answer}
 use Rattle.judge.specs.declared.answer.Judged.the-variants.{Answered, Refused}
 use Rattle.judge.specs.declared.answer.Margined.the-variants as Margin
 use Rattle.judge.specs.declared.answer.Smallest.the-variants as Search
 use Rattle.judge.specs.declared.answer.Verdict.the-variants as Variant
 use Rattle.judge.specs.declared.answer.Verdict.{Verdict}
+use Rattle.judge.specs.Answer.{judgeAnswer}
 use Rattle.judge.specs.Capacity.{capacityAnswer}
 use Rattle.judge.specs.Judged.{verdictAnswer}
 use Rattle.judge.specs.Margin.{Step, Tightest, marginAnswer, marginAt}
@@ -78,6 +80,11 @@ NoLaterSmaller =
     (c : Component) → componentRefusal c ≡ refusal.none → (q : Units) → verdictAnswer c ≡ Answered q Variant.Accepted
     → (m : ℤ) (t : Time) → marginAnswer c ≡ Margin.Least m t → (p : ℕ) → Step (tasksOf (c .table)) p
     → supply (interfaceAt c (q .0)) (t .0) + demand (tasksOf (c .table)) (suc p) ≤ supply (interfaceAt c (q .0)) (suc p) + demand (tasksOf (c .table)) (t .0)
+
+-- a single call answers both: its two parts are the verdict and the margin as they are defined, of refused components too, and no other
+-- answer has these parts
+abbrev pub OneCall : Type 0
+OneCall = (c : Component) (a : Answer) → (a ≡ judgeAnswer c) ↔ ((a .verdict ≡ verdictAnswer c) × (a .margin ≡ marginAnswer c))
 
 -- verdict, margin and smallest capacity refuse the same components with the same number (RULES 13)
 abbrev pub RefusedAlike : Type 0

@@ -2,7 +2,7 @@
 use Prim.Native.Nat.{ℕ}
 use mathlib.Core.List.{List, [], _∷_, _++_}
 use Rattle.budget.specs.declared.quantity.Units.{Units}
-use Rattle.judge.specs.declared.answer.Judged.{Judged}
+use Rattle.judge.specs.declared.answer.Answer.{Answer}
 use Rattle.judge.specs.declared.answer.Judged.the-variants as Judged
 use Rattle.judge.specs.declared.answer.Margined.{Margined}
 use Rattle.judge.specs.declared.answer.Margined.the-variants as Margined
@@ -59,14 +59,17 @@ verdictFields capacity (Verdict.Short instant) margined = short-word ∷ decimal
 verdictFields capacity Verdict.None margined = none-word ∷ []
 
 -- a component that the judge refuses is long: 10 is the only refusal of one that stands in a taken sheet (OnlyLong of crate tree)
-unfoldable pub answerFields : Judged → Margined → List (List ℕ)
-answerFields (Judged.Refused number) margined = long-word ∷ []
-answerFields (Judged.Answered capacity verdict) margined = verdictFields capacity verdict margined
+unfoldable pub answerFields : Answer → List (List ℕ)
+answerFields answer =
+    elim (answer .verdict) [
+      | Judged.Refused number ↦ long-word ∷ []
+      | Judged.Answered capacity verdict ↦ verdictFields capacity verdict (answer .margin)
+    ]
 
 -- in its tree a component may have to wait
 unfoldable pub outcomeFields : Outcome → List (List ℕ)
 outcomeFields Outcome.Waiting = waiting-word ∷ []
-outcomeFields (Outcome.Judged judged margined) = answerFields judged margined
+outcomeFields (Outcome.Judged answer) = answerFields answer
 
 -- a component's line begins with its number
 unfoldable pub componentLine : ℕ → Outcome → List ℕ

@@ -7,8 +7,7 @@ use lib.ListN.{length}
 use lib.Seq.{sets}
 use lib.Dec.{eqb}
 use Rattle.budget.specs.Refusal as refusal
-use Rattle.judge.specs.Judged.{verdictAnswer}
-use Rattle.judge.specs.Margin.{marginAnswer}
+use Rattle.judge.specs.Answer.{judgeAnswer}
 use Rattle.record.specs.Field.{Bytes}
 use Rattle.sheet.specs.Check.{check, pairsOf}
 use Rattle.transfer.specs.Reading.{reading}
@@ -39,4 +38,4 @@ abbrev pub UnpairedAlone : Type 0
 UnpairedAlone =
     (s : List ℕ) → Bytes s → check s .refusal ≡ refusal.none → pairsOf s ≡ [] → (k : ℕ) → k < check s .count
     → let c = reading s k .component in
-    componentLine (c .number) (outcomeAt s k) ≡ decimal (c .number) ++ behind (answerFields (verdictAnswer c) (marginAnswer c))
+    componentLine (c .number) (outcomeAt s k) ≡ decimal (c .number) ++ behind (answerFields (judgeAnswer c))

@@ -5,6 +5,7 @@ use crate::text::put_number;
 use crate::text::put_signed;
 use crate::text::put_word;
 use budget::quantity::Units;
+use judge::answer::Answer;
 use judge::answer::Judged;
 use judge::answer::Margined;
 use judge::answer::Verdict;
@@ -93,10 +94,12 @@ fn put_verdict(
 }
 
 // What stands behind a component's number, and the newline.
-fn put_answer(line: &mut Line, at: usize, judged: Judged, margined: Margined) -> usize
+fn put_answer(line: &mut Line, at: usize, answer: Answer) -> usize
     requires { ⌜ at ≤ 6 ⌝ }
-    ensures { λ r. ⌜ Put (now (line .entry)) at (behind (answerFields judged margined)) (now (line .exit)) r ⌝ }
+    ensures { λ r. ⌜ Put (now (line .entry)) at (behind (answerFields answer)) (now (line .exit)) r ⌝ }
 {
+    let judged = answer.verdict;
+    let margined = answer.margin;
     match judged {
         Judged::Refused(_) => put_word(line, at, b" long\n"),
         Judged::Answered(capacity, verdict) => put_verdict(line, at, capacity, verdict, margined),
@@ -110,7 +113,7 @@ fn put_outcome(line: &mut Line, at: usize, outcome: Outcome) -> usize
 {
     match outcome {
         Outcome::Waiting => put_word(line, at, b" waiting\n"),
-        Outcome::Judged(judged, margined) => put_answer(line, at, judged, margined),
+        Outcome::Judged(answer) => put_answer(line, at, answer),
     }
 }
 

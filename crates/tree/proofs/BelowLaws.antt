@@ -20,7 +20,7 @@ use Rattle.record.proofs.Cases.{cases, either}
 use Rattle.tree.specs.declared.answer.Outcome.{Outcome}
 use Rattle.tree.specs.declared.answer.Outcome.the-variants as Outcome
 use Rattle.tree.specs.declared.offer.Offer.{Offer}
-use Rattle.tree.specs.Offer.{offeredOn, offerOf, offerIn}
+use Rattle.tree.specs.Offer.{offering, offeredOn, offerOf, offerIn}
 use Rattle.tree.specs.Outcome.{outcomeOf}
 use Rattle.tree.specs.Workload.{children, loadOn}
 use Rattle.tree.specs.inner.Below.{holds, wantedOf, outcomeWanted, offersBelow}
@@ -161,17 +161,21 @@ module _ (ws : List ℕ) where
 
 -- ---- the pass over the components
 
-offered-number : (c : Component) (j : Judged) → offeredOn c j .number ≡ c .number
-offered-number c (Refused n) = refl
-offered-number c (Answered q Verdict.Accepted) = refl
-offered-number c (Answered q (Verdict.Short t)) = refl
-offered-number c (Answered q Verdict.None) = refl
+offered-is : (c : Component) (j : Judged) → offeredOn c j ≡ offering c (offeredOn c j .capacity)
+offered-is c (Refused n) = refl
+offered-is c (Answered q Verdict.Accepted) = refl
+offered-is c (Answered q (Verdict.Short t)) = refl
+offered-is c (Answered q Verdict.None) = refl
+
+-- what a component offers differs from its interface in the capacity alone
+pub offer-is : (c : Component) (o : Outcome) → offerOf c o ≡ offering c (offerOf c o .capacity)
+unfolding offerOf
+offer-is c Outcome.Waiting = refl
+offer-is c (Outcome.Judged a) = offered-is c (a .verdict)
 
 -- an offer has its component's number, whatever it is answered
 pub offer-number : (c : Component) (o : Outcome) → offerOf c o .number ≡ c .number
-unfolding offerOf
-offer-number c Outcome.Waiting = refl
-offer-number c (Outcome.Judged j m) = offered-number c j
+offer-number c o = ap (λ (x : Offer). x .number) (offer-is c o)
 
 -- one component more, and what it offers
 pub offers-next : (ws : List ℕ) (ps : List Pair) (at : ℕ → Component) (k : ℕ) (os : List Offer) → os ≡ offersBelow ws ps at k

@@ -57,7 +57,8 @@ parent = stated 2 1 1 1 (task 4 2 4 0 ∷ [])
 sheet : ℕ → ℕ → List ℕ
 sheet d j = sheetBytes (child d j ∷ parent ∷ []) (record { child = 1; parent = 2 } ∷ [])
 
-child-accepted : placing (sheet 8 0) 0 ≡ Placed.Found 1 (Outcome.Judged (Answered (record { 0 = 2 }) Verdict.Accepted) (Margin.Least (pos 0) (record { 0 = 8 })))
+child-accepted : placing (sheet 8 0) 0
+    ≡ Placed.Found 1 (Outcome.Judged (record { verdict = Answered (record { 0 = 2 }) Verdict.Accepted; margin = Margin.Least (pos 0) (record { 0 = 8 }) }))
 unfolding sheet sheetBytes componentsBytes componentBytes pairsBytes tasksBytes placing outcomeAt loadAt offersTo offerOf reading partCheck chosen partOf spanOf edgeOf componentFrom withHead tasksIn taskThen check walked walk step opened start judged recordRefusal after headRefusal sizeOf headSize taskSize interfaceRefusal afterHead standingRefusal formRefusal taskRefusal afterTask ended refuse recordOf ofKind rowOf recordWith encode field headBytes taskBytes taskBytesBy pairBytes endBytes paired pairedFrom pairWalk pairStep pairJudged pairRefusal pairs rises registered ownTasks named afterPair stopped registerOf entriesFrom entryOf heldOf held endingRefusal checkedOf pairsOf outcomeOf loadOn allOffered children offerIn workload tasksFrom withTasks tableOf tasksOf verdictAnswer componentRefusal validComponent interfaceOf validInterface validTasks validTask isRight sameCommon commonOf grownBy grown capped commonPeriodOf commonPeriod commonMultiple commonDivisor euclid judgedAt verdictOn accepts firstShort smallest isShort supply wholePeriods demand jobsBy marginAnswer marginedAt marginOn tightInstant tightAt tried
 child-accepted = refl
 
@@ -66,12 +67,13 @@ parent-loaded : loadAt (sheet 8 0) 1 ≡ ready (withTasks parent (task 4 2 4 0 �
 unfolding sheet sheetBytes componentsBytes componentBytes pairsBytes tasksBytes placing outcomeAt loadAt offersTo offerOf reading partCheck chosen partOf spanOf edgeOf componentFrom withHead tasksIn taskThen check walked walk step opened start judged recordRefusal after headRefusal sizeOf headSize taskSize interfaceRefusal afterHead standingRefusal formRefusal taskRefusal afterTask ended refuse recordOf ofKind rowOf recordWith encode field headBytes taskBytes taskBytesBy pairBytes endBytes paired pairedFrom pairWalk pairStep pairJudged pairRefusal pairs rises registered ownTasks named afterPair stopped registerOf entriesFrom entryOf heldOf held endingRefusal checkedOf pairsOf outcomeOf loadOn allOffered children offerIn workload tasksFrom withTasks tableOf tasksOf verdictAnswer componentRefusal validComponent interfaceOf validInterface validTasks validTask isRight sameCommon commonOf grownBy grown capped commonPeriodOf commonPeriod commonMultiple commonDivisor euclid judgedAt verdictOn accepts firstShort smallest isShort supply wholePeriods demand jobsBy marginAnswer marginedAt marginOn tightInstant tightAt tried
 parent-loaded = refl
 
-parent-accepted : placing (sheet 8 0) 1 ≡ Placed.Found 2 (Outcome.Judged (Answered (record { 0 = 1 }) Verdict.Accepted) (Margin.Least (pos 0) (record { 0 = 4 })))
+parent-accepted : placing (sheet 8 0) 1
+    ≡ Placed.Found 2 (Outcome.Judged (record { verdict = Answered (record { 0 = 1 }) Verdict.Accepted; margin = Margin.Least (pos 0) (record { 0 = 4 }) }))
 unfolding sheet sheetBytes componentsBytes componentBytes pairsBytes tasksBytes placing outcomeAt loadAt offersTo offerOf reading partCheck chosen partOf spanOf edgeOf componentFrom withHead tasksIn taskThen check walked walk step opened start judged recordRefusal after headRefusal sizeOf headSize taskSize interfaceRefusal afterHead standingRefusal formRefusal taskRefusal afterTask ended refuse recordOf ofKind rowOf recordWith encode field headBytes taskBytes taskBytesBy pairBytes endBytes paired pairedFrom pairWalk pairStep pairJudged pairRefusal pairs rises registered ownTasks named afterPair stopped registerOf entriesFrom entryOf heldOf held endingRefusal checkedOf pairsOf outcomeOf loadOn allOffered children offerIn workload tasksFrom withTasks tableOf tasksOf verdictAnswer componentRefusal validComponent interfaceOf validInterface validTasks validTask isRight sameCommon commonOf grownBy grown capped commonPeriodOf commonPeriod commonMultiple commonDivisor euclid judgedAt verdictOn accepts firstShort smallest isShort supply wholePeriods demand jobsBy marginAnswer marginedAt marginOn tightInstant tightAt tried
 parent-accepted = refl
 
 child-short : placing (sheet 7 0) 0
-    ≡ Placed.Found 1 (Outcome.Judged (Answered (record { 0 = 2 }) (Verdict.Short (record { 0 = 7 }))) (Margin.Least (negsuc 0) (record { 0 = 7 })))
+    ≡ Placed.Found 1 (Outcome.Judged (record { verdict = Answered (record { 0 = 2 }) (Verdict.Short (record { 0 = 7 })); margin = Margin.Least (negsuc 0) (record { 0 = 7 }) }))
 unfolding sheet sheetBytes componentsBytes componentBytes pairsBytes tasksBytes placing outcomeAt loadAt offersTo offerOf reading partCheck chosen partOf spanOf edgeOf componentFrom withHead tasksIn taskThen check walked walk step opened start judged recordRefusal after headRefusal sizeOf headSize taskSize interfaceRefusal afterHead standingRefusal formRefusal taskRefusal afterTask ended refuse recordOf ofKind rowOf recordWith encode field headBytes taskBytes taskBytesBy pairBytes endBytes paired pairedFrom pairWalk pairStep pairJudged pairRefusal pairs rises registered ownTasks named afterPair stopped registerOf entriesFrom entryOf heldOf held endingRefusal checkedOf pairsOf outcomeOf loadOn allOffered children offerIn workload tasksFrom withTasks tableOf tasksOf verdictAnswer componentRefusal validComponent interfaceOf validInterface validTasks validTask isRight sameCommon commonOf grownBy grown capped commonPeriodOf commonPeriod commonMultiple commonDivisor euclid judgedAt verdictOn accepts firstShort smallest isShort supply wholePeriods demand jobsBy marginAnswer marginedAt marginOn tightInstant tightAt tried
 child-short = refl
 
@@ -81,6 +83,6 @@ parent-waits = refl
 
 -- a job due within 8 that may be 1 late is judged as one due within 7
 late-child-short : placing (sheet 8 1) 0
-    ≡ Placed.Found 1 (Outcome.Judged (Answered (record { 0 = 2 }) (Verdict.Short (record { 0 = 7 }))) (Margin.Least (negsuc 0) (record { 0 = 7 })))
+    ≡ Placed.Found 1 (Outcome.Judged (record { verdict = Answered (record { 0 = 2 }) (Verdict.Short (record { 0 = 7 })); margin = Margin.Least (negsuc 0) (record { 0 = 7 }) }))
 unfolding sheet sheetBytes componentsBytes componentBytes pairsBytes tasksBytes placing outcomeAt loadAt offersTo offerOf reading partCheck chosen partOf spanOf edgeOf componentFrom withHead tasksIn taskThen check walked walk step opened start judged recordRefusal after headRefusal sizeOf headSize taskSize interfaceRefusal afterHead standingRefusal formRefusal taskRefusal afterTask ended refuse recordOf ofKind rowOf recordWith encode field headBytes taskBytes taskBytesBy pairBytes endBytes paired pairedFrom pairWalk pairStep pairJudged pairRefusal pairs rises registered ownTasks named afterPair stopped registerOf entriesFrom entryOf heldOf held endingRefusal checkedOf pairsOf outcomeOf loadOn allOffered children offerIn workload tasksFrom withTasks tableOf tasksOf verdictAnswer componentRefusal validComponent interfaceOf validInterface validTasks validTask isRight sameCommon commonOf grownBy grown capped commonPeriodOf commonPeriod commonMultiple commonDivisor euclid judgedAt verdictOn accepts firstShort smallest isShort supply wholePeriods demand jobsBy marginAnswer marginedAt marginOn tightInstant tightAt tried
 late-child-short = refl

@@ -199,8 +199,8 @@ module _ (s : List ℕ) (bytes : Bytes s) (e : check s .refusal ≡ 0) where
 
 pub only-long : OnlyLong
 unfolding outcomeAt outcomeOf loadAt loadOn
-only-long s bytes e k h n m =
+only-long s bytes e k h a n =
     let c = reading s k .component in
-    cases (λ (l : Load). outcomeOf l ≡ Outcome.Judged (Refused n) m → n ≡ refusal.long) (allOffered (childrenAt s k))
-    (λ p f. only-by s bytes e _ (loaded-in-range c (read-in-range s bytes e k h) (childrenAt s k) (children-able (pairsOf s) (offersTo s k) (offers-able s bytes e k (omega arith)) (c .number)) p (workload-fits s bytes e k h)) (with-tasks-right c _) n (cc))
-    (λ p f. let z : _≡_ {A = ℕ} 0 1 = cc in absurd (omega arith))
+    cases (λ (l : Load). outcomeOf l ≡ Outcome.Judged a → a .verdict ≡ Refused n → n ≡ refusal.long) (allOffered (childrenAt s k))
+    (λ p f g. only-by s bytes e _ (loaded-in-range c (read-in-range s bytes e k h) (childrenAt s k) (children-able (pairsOf s) (offersTo s k) (offers-able s bytes e k (omega arith)) (c .number)) p (workload-fits s bytes e k h)) (with-tasks-right c _) n (cc))
+    (λ p f g. let z : _≡_ {A = ℕ} 0 1 = cc f in absurd (omega arith))

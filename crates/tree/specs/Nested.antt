@@ -5,10 +5,9 @@ use mathlib.Core.Path.{_≡_}
 use lib.ListN.{length}
 use Rattle.budget.specs.Limits.{most-tasks}
 use Rattle.budget.specs.Refusal as refusal
+use Rattle.judge.specs.declared.answer.Answer.{Answer}
 use Rattle.judge.specs.declared.answer.Judged.the-variants.{Refused}
-use Rattle.judge.specs.declared.answer.Margined.{Margined}
-use Rattle.judge.specs.Judged.{verdictAnswer}
-use Rattle.judge.specs.Margin.{marginAnswer}
+use Rattle.judge.specs.Answer.{judgeAnswer}
 use Rattle.record.specs.Field.{Bytes}
 use Rattle.sheet.specs.Check.{check, pairsOf}
 use Rattle.sheet.specs.Pairs.{named}
@@ -32,11 +31,11 @@ WorkloadFits =
 abbrev pub OnlyLong : Type 0
 OnlyLong =
     (s : List ℕ) → Bytes s → check s .refusal ≡ refusal.none → (k : ℕ) → k < check s .count
-    → (number : ℕ) (m : Margined) → outcomeAt s k ≡ Outcome.Judged (Refused number) m → number ≡ refusal.long
+    → (a : Answer) (number : ℕ) → outcomeAt s k ≡ Outcome.Judged a → a .verdict ≡ Refused number → number ≡ refusal.long
 
 -- a component that is no parent is judged by its own tasks, as if it stood alone
 abbrev pub NoParentAlone : Type 0
 NoParentAlone =
     (s : List ℕ) → Bytes s → check s .refusal ≡ refusal.none → (k : ℕ) → k < check s .count
     → named (pairsOf s) (reading s k .component .number) ≡ 0
-    → outcomeAt s k ≡ Outcome.Judged (verdictAnswer (reading s k .component)) (marginAnswer (reading s k .component))
+    → outcomeAt s k ≡ Outcome.Judged (judgeAnswer (reading s k .component))

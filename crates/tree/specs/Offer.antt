@@ -29,7 +29,7 @@ offeredOn c (Answered q Verdict.None) = offering c withheld
 -- only one that is accepted offers anything
 unfoldable pub offerOf : Component → Outcome → Offer
 offerOf c Outcome.Waiting = offering c withheld
-offerOf c (Outcome.Judged j m) = offeredOn c j
+offerOf c (Outcome.Judged a) = offeredOn c (a .verdict)
 
 -- stands for the offer of a component that was not judged
 abbrev pub noOffer : Offer

@@ -1,7 +1,6 @@
 // What a component is answered in its tree (RULES 7).
 use budget::component::Component;
-use judge::answer::Judged;
-use judge::answer::Margined;
+use judge::answer::Answer;
 
 // A component's workload: the component with the whole workload as its tasks, or that it waits for a child; then the component is the one of a
 // refused reading.
@@ -13,5 +12,5 @@ pub struct Load {
 // Verdict and margin of a component's whole workload, or that it waits.
 pub enum Outcome {
     Waiting,
-    Judged(Judged, Margined),
+    Judged(Answer),
 }

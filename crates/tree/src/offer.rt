@@ -50,7 +50,10 @@ pub(crate) fn offer_of(component: Component, outcome: Outcome) -> Offer
 {
     match outcome {
         Outcome::Waiting => offering(component, WITHHELD),
-        Outcome::Judged(judged, _) => offered_on(component, judged),
+        Outcome::Judged(answer) => {
+            let judged = answer.verdict;
+            offered_on(component, judged)
+        }
     }
 }
 

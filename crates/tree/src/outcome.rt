@@ -10,7 +10,7 @@ ghost use Rattle.tree.specs.Offer.{offersIn};
 ghost use Rattle.tree.specs.Outcome.{outcomeOf};
 ghost use Rattle.tree.specs.Workload.{loadOn, pairsFrom};
 
-// The judge's answers on the component with its workload. Its common period is known: what a workload makes stores the right one.
+// The judge's answer on the component with its workload. Its common period is known: what a workload makes stores the right one.
 pub(crate) fn outcome_of(load: Load) -> Outcome
     requires { ⌜ Right (load .component) ⌝ }
     ensures { λ r. ⌜ r ≡ outcomeOf load ⌝ }
@@ -19,7 +19,7 @@ pub(crate) fn outcome_of(load: Load) -> Outcome
         return Outcome::Waiting;
     }
     let component = load.component;
-    Outcome::Judged(known::verdict(component), known::margin(component))
+    Outcome::Judged(known::judge(component))
 }
 
 // Judges the component that comes next: the pairs as a row of children and one of parents, the offers of those before it in one row.

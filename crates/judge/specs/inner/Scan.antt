@@ -15,10 +15,14 @@ pub record Scannable (table : Table) (i : Interface) (n : ℕ) : Type 0 where
   pub interface : validInterface i ≡ true
   pub bounded : n ≤ limit
 
+-- supply and demand of a step instant up to the limit
+pub record Small (best : Tight) : Type 0 where
+  pub units : best .units ≤ limit
+  pub demand : best .demand ≤ most-tasks * (2 * limit)
+
 -- the tightest instant so far and the one to be tried
 pub record Triable (best : Tight) (i : Interface) (at asked : ℕ) : Type 0 where
   pub interface : validInterface i ≡ true
   pub bounded : at ≤ limit
   pub asked-fits : asked ≤ most-tasks * (2 * limit)
-  pub best-fits : best .demand ≤ most-tasks * (2 * limit)
-  pub units-fit : best .units ≤ limit
+  pub best-fits : Small best

@@ -1,4 +1,4 @@
--- By whether it waits; else the two answers are what their functions ensure.
+-- By whether it waits; else the answer is what the judge ensures.
 use borrow.Author.Needs.{needs}
 use Rattle.tree.specs.Outcome.{outcomeOf}
 use Rattle.tree.proofs.outcome.outcome_of.Statement.{statement}
@@ -10,7 +10,7 @@ returns c = rw (c .if1 .taken)
 
 returns-2 : tie.Need-returns-2
 unfolding outcomeOf
-returns-2 c = rw (c .before .before .before .if1 .left, ← (c .before .verdict .ensures), ← (c .margin .ensures))
+returns-2 c = rw (c .before .before .if1 .left, ← (c .judge .ensures))
 
 pub outcome-of-spec : {M : Type 1} → statement M
-outcome-of-spec = tie.close (tie.spec returns (λ c κs. search needs) (λ c κs. search needs) returns-2)
+outcome-of-spec = tie.close (tie.spec returns (λ c κs. search needs) returns-2)
