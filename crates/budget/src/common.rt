@@ -9,7 +9,7 @@ use crate::quantity::Time;
 use crate::task::Table;
 
 // The stored common period: L, or that L is above the limit.
-#[derive(Drop)]
+#[derive(Clone, Copy)]
 pub enum Common {
     Within(Time),
     Above,

@@ -9,7 +9,7 @@ use crate::quantity::Time;
 use crate::refusal;
 
 // A component's common period L; refused: 0.
-#[derive(Drop)]
+#[derive(Clone, Copy)]
 pub struct CommonPeriod {
     pub refusal: u16,
     pub length: Time,

@@ -9,14 +9,14 @@ use crate::refusal;
 use crate::task::{Table, check_table, no_tasks};
 
 // The capacity of a component: stated in units, or asked for.
-#[derive(Drop)]
+#[derive(Clone, Copy)]
 pub enum Capacity {
     Stated(Units),
     Asked,
 }
 
 // A component: its number, its interface with the capacity stated or asked, its common period as it is stored, and its tasks.
-#[derive(Drop)]
+#[derive(Clone, Copy)]
 pub struct Component {
     pub number: u16,
     pub period: Time,

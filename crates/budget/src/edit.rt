@@ -14,7 +14,7 @@ use crate::refusal;
 use crate::task::{Table, Task, append, check_task, no_tasks};
 
 // What an edit answers; refused: the component that stands for none.
-#[derive(Drop)]
+#[derive(Clone, Copy)]
 pub struct Edited {
     pub refusal: u16,
     pub component: Component,

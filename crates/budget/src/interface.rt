@@ -6,7 +6,7 @@ use crate::quantity::{Time, Units};
 use crate::refusal;
 
 // An explicit-deadline-periodic interface: period Π, capacity Θ, deadline Δ.
-#[derive(Drop)]
+#[derive(Clone, Copy)]
 pub struct Interface {
     pub period: Time,
     pub capacity: Units,

@@ -1,4 +1,6 @@
 // The ground of the judge: quantities, tasks, interfaces, components, their common period, demand and supply.
+#![tactic(auto)]
+
 pub mod check;
 pub mod common;
 pub mod common_period;

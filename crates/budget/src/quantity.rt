@@ -7,11 +7,11 @@ ghost use Rattle.budget.specs.Refusal as refusal;
 use crate::refusal;
 
 // A number of slots, or the instant at the end of that many.
-#[derive(Drop)]
+#[derive(Clone, Copy)]
 pub struct Time(pub u32);
 
 // A number of units of service; a supplied slot gives one.
-#[derive(Drop)]
+#[derive(Clone, Copy)]
 pub struct Units(pub u32);
 
 impl Time {
@@ -20,7 +20,7 @@ impl Time {
 }
 
 // An amount of service asked for or given by an instant; refused: no units.
-#[derive(Drop)]
+#[derive(Clone, Copy)]
 pub struct Amount {
     pub refusal: u16,
     pub units: Units,

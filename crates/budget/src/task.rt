@@ -9,7 +9,7 @@ use crate::refusal;
 
 // A sporadic task: period T, work C, deadline D, lateness J: a job may become ready up to J slots after its release, and its
 // deadline counts from its release all the same.
-#[derive(Drop)]
+#[derive(Clone, Copy)]
 pub struct Task {
     pub period: Time,
     pub work: Units,
@@ -18,7 +18,7 @@ pub struct Task {
 }
 
 // A task table: the tasks are the first `count` places; nothing reads the places behind them.
-#[derive(Drop)]
+#[derive(Clone, Copy)]
 pub struct Table {
     pub count: usize,
     pub tasks: [Task; 64],

@@ -8,38 +8,38 @@ use budget::interface::Interface;
 use budget::quantity::{Time, Units};
 use budget::task::{Table, Task};
 
-#[derive(Drop)]
+#[derive(Clone, Copy)]
 pub struct GivenTask {
     pub value: Task,
     pub at: usize,
 }
 
-#[derive(Drop)]
+#[derive(Clone, Copy)]
 pub struct GivenTable {
     pub value: Table,
     pub at: usize,
 }
 
-#[derive(Drop)]
+#[derive(Clone, Copy)]
 pub struct GivenInterface {
     pub value: Interface,
     pub at: usize,
 }
 
-#[derive(Drop)]
+#[derive(Clone, Copy)]
 pub struct GivenCapacity {
     pub value: Capacity,
     pub at: usize,
 }
 
-#[derive(Drop)]
+#[derive(Clone, Copy)]
 pub struct GivenCommon {
     pub value: Common,
     pub at: usize,
 }
 
 // The numbers that a component begins with, before its stored common period and its table.
-#[derive(Drop)]
+#[derive(Clone, Copy)]
 pub struct GivenHead {
     pub number: u16,
     pub period: Time,
@@ -48,7 +48,7 @@ pub struct GivenHead {
     pub at: usize,
 }
 
-#[derive(Drop)]
+#[derive(Clone, Copy)]
 pub struct GivenComponent {
     pub value: Component,
     pub at: usize,

@@ -1,21 +1,21 @@
 // The words of a line and its numbers, each read from a place on.
 
 // A number, and the place after it and the space that follows it.
-#[derive(Drop)]
+#[derive(Clone, Copy)]
 pub struct Number {
     pub value: u64,
     pub at: usize,
 }
 
 // A number of 32 bits, read likewise.
-#[derive(Drop)]
+#[derive(Clone, Copy)]
 pub struct Long {
     pub value: u32,
     pub at: usize,
 }
 
 // A signed number of 32 bits, read likewise.
-#[derive(Drop)]
+#[derive(Clone, Copy)]
 pub struct Signed {
     pub value: i32,
     pub at: usize,

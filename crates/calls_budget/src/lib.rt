@@ -1,4 +1,6 @@
 // The calls of the crate `budget` (docs/CALLS.md), each answered by a function of its own.
+#![tactic(auto)]
+
 mod edits;
 mod numbers;
 

@@ -7,7 +7,7 @@ use budget::known;
 use calls::{given, words};
 
 // What an edit answers, and the place in the line after it.
-#[derive(Drop)]
+#[derive(Clone, Copy)]
 struct Step {
     edited: Edited,
     at: usize,

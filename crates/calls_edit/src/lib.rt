@@ -1,5 +1,7 @@
 // The call `edit` (docs/CALLS.md), answered the way of a program that reads, edits, judges and writes and never hands in a component of its own: all of it
 // by the operations for a component that is known to store the right common period.
+#![tactic(auto)]
+
 mod edits;
 mod shown;
 

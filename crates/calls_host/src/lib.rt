@@ -1,5 +1,7 @@
 // Calls that a host makes (include/jougsilver.h): each answers the number that it returns, and then its buffer, which is as
 // much of the lent one as the call says, filled with a5.
+#![tactic(auto)]
+
 use calls::{print, rows, words};
 
 fn put_reply(out: &mut [u8], returned: u32, reply: &[u8]) -> usize {

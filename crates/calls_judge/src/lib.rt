@@ -1,4 +1,6 @@
 // The calls of the crate `judge` (docs/CALLS.md), each answered by a function of its own.
+#![tactic(auto)]
+
 pub mod shown;
 
 use calls::{given, print, words};

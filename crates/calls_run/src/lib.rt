@@ -1,4 +1,6 @@
 // The calls of the crates `trace` and `run` (docs/CALLS.md), each answered by a function of its own.
+#![tactic(auto)]
+
 use budget::quantity::Time;
 use budget::task::Table;
 use calls::{given, print, rows, words};

@@ -1,4 +1,6 @@
 // The calls on sheets (docs/CALLS.md), each answered by a function of its own.
+#![tactic(auto)]
+
 mod sheets;
 pub mod shown;
 

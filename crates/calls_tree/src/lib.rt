@@ -1,4 +1,6 @@
 // The calls on components in their tree (docs/CALLS.md), each answered by a function of its own.
+#![tactic(auto)]
+
 use calls::{print, rows, shown, words};
 use calls_judge::shown as judged;
 use judge::answer::Answer;

@@ -1,4 +1,6 @@
 // Answers the calls on standard input, a line each, over the operations of the other crates (docs/CALLS.md).
+#![tactic(auto)]
+
 use calls::print;
 use lines::Held;
 

@@ -1,4 +1,6 @@
 // The calls of the host, a C program: include/jougsilver.h is their other side. C sees each slice as two arguments, where it begins and how many bytes it has.
+#![tactic(auto)]
+
 mod all;
 mod answer;
 

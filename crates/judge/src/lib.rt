@@ -1,4 +1,6 @@
 // Verdict and margin in a single call, and the smallest capacity.
+#![tactic(auto)]
+
 pub mod answer;
 pub mod capacity;
 pub mod judging;

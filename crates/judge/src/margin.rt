@@ -9,7 +9,7 @@ use crate::answer::Margined;
 use budget::quantity::Time;
 
 // A step instant with supply and demand there; instant 0 stands for none.
-#[derive(Drop)]
+#[derive(Clone, Copy)]
 pub struct Tight {
     pub at: u32,
     pub units: u32,

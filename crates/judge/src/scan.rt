@@ -16,7 +16,7 @@ use budget::supply::supply;
 use budget::task::Table;
 
 // What a scan has found: the first short instant, past the last instant for none, and the tightest step instant.
-#[derive(Drop)]
+#[derive(Clone, Copy)]
 pub struct Scanned {
     pub short: u32,
     pub tight: Tight,

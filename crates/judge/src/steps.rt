@@ -5,7 +5,7 @@ ghost use Rattle.judge.specs.inner.Steps.{Columned, Stepped, Steppable};
 use budget::task::{Table, span};
 
 // A table's periods, works and next deadlines, task by task.
-#[derive(Drop)]
+#[derive(Clone, Copy)]
 pub struct Columns {
     pub period: [u32; 64],
     pub work: [u32; 64],
@@ -13,7 +13,7 @@ pub struct Columns {
 }
 
 // One step instant passed: the demand by then and the next step instant.
-#[derive(Drop)]
+#[derive(Clone, Copy)]
 pub struct Step {
     pub demand: u32,
     pub next: u32,

@@ -1,11 +1,13 @@
 // Lines of standard input, as they come: a read may end anywhere, and a line is answered only once it is whole.
+#![tactic(auto)]
+
 ghost use Rattle.lines.specs.Lines.{Behind, Kept, LineEnd, Refilled, Stopped, Taken, Unread};
 
 use libc::{STDERR_FILENO, STDIN_FILENO};
 
 // What is held of the input in a row: the lines that are taken end at `start`, no line ends from there to `seen`, and the row
 // holds the bytes up to `end`. Once it is not open, nothing more is read.
-#[derive(Drop)]
+#[derive(Clone, Copy)]
 pub struct Held {
     pub start: usize,
     pub seen: usize,

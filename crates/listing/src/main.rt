@@ -1,5 +1,7 @@
 // Prints the listing of the sheet on standard input (RULES 15). What it says is decided by `report::listing::listing`; here bytes are only read and
 // written. A read or a write that fails is told on standard error, and is never printed as a listing.
+#![tactic(auto)]
+
 ghost use Rattle.std.specs.Prelude.{◌+◌, ◌≤◌, length};
 ghost use Rattle.io.specs.Counts.{IsPrefixLen};
 
@@ -7,7 +9,7 @@ use libc::{STDERR_FILENO, STDIN_FILENO, STDOUT_FILENO};
 use report::listing::listing;
 
 // What was read: so many bytes, or a failure.
-#[derive(Drop)]
+#[derive(Clone, Copy)]
 pub struct Input {
     pub count: usize,
     pub failed: bool,

@@ -1,1 +1,2 @@
 // The theorems of the demands, over the definitions of the crates below; no code.
+#![tactic(auto)]

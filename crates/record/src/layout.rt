@@ -11,7 +11,7 @@ use budget::refusal;
 use budget::task::Task;
 
 // What a component record says: the component without its tasks.
-#[derive(Drop)]
+#[derive(Clone, Copy)]
 pub struct Head {
     pub number: u16,
     pub period: Time,
@@ -20,7 +20,7 @@ pub struct Head {
 }
 
 // What a pair record says: the number of a component, and that of the one it is inside.
-#[derive(Drop)]
+#[derive(Clone, Copy)]
 pub struct Pair {
     pub child: u16,
     pub parent: u16,
@@ -28,7 +28,7 @@ pub struct Pair {
 
 // What begins at a place of a sheet: a record, or the refusal where none does. Of a task it is told whether its J is stated; behind
 // the task that flag made the check of a sheet of tasks slower by 15 to 24 in a hundred (measured).
-#[derive(Drop)]
+#[derive(Clone, Copy)]
 pub enum Record {
     ComponentRecord(Head),
     TaskRecord(bool, Task),

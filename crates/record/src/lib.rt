@@ -1,4 +1,6 @@
 // The records of a budget sheet: fields, rows of fields, what each kind of record holds, and writing them into a buffer.
+#![tactic(auto)]
+
 mod field;
 pub mod layout;
 pub mod reply;

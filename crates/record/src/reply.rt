@@ -8,7 +8,7 @@ use crate::write::{Written, headed, write_row};
 use budget::quantity::{Time, Units};
 
 // The fields of a reply; the margin is the signed number's two's complement.
-#[derive(Drop)]
+#[derive(Clone, Copy)]
 pub struct Reply {
     pub number: u16,
     pub code: u16,

@@ -12,7 +12,7 @@ use budget::component::Capacity;
 use budget::refusal;
 
 // What a writer answers: the place behind what was written; refused: 0.
-#[derive(Drop)]
+#[derive(Clone, Copy)]
 pub struct Written {
     pub refusal: u16,
     pub place: usize,

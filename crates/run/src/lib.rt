@@ -1,4 +1,6 @@
 // The run: a step-by-step walk over a trace with jobs.
+#![tactic(auto)]
+
 mod jobs;
 mod release;
 mod scan;

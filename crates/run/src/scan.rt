@@ -90,7 +90,7 @@ pub(crate) fn late_task(due: &[u32], tasks: &[u32], left: &[u32], t: u32) -> u32
 }
 
 // What one slot gives: a unit served, a unit idle, or nothing.
-#[derive(Drop)]
+#[derive(Clone, Copy)]
 pub struct Given {
     pub served: u32,
     pub idle: u32,

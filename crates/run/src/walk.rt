@@ -14,14 +14,14 @@ use budget::task::{Table, check_table};
 use trace::legal::{LONGEST, zeros_and_ones};
 
 // The first miss: its instant and its task's number, or none.
-#[derive(Drop)]
+#[derive(Clone, Copy)]
 pub enum Miss {
     None,
     At(Time, u32),
 }
 
 // What the walk answers; refused: no miss, nothing served, nothing idle.
-#[derive(Drop)]
+#[derive(Clone, Copy)]
 pub struct Walked {
     pub refusal: u16,
     pub miss: Miss,

@@ -9,7 +9,7 @@ use crate::walk::{Walked, walk};
 use budget::refusal;
 
 // What a sheet is answered; any other number of a refused answer is 0.
-#[derive(Drop)]
+#[derive(Clone, Copy)]
 pub struct Checked {
     pub refusal: u16,
     pub place: usize,

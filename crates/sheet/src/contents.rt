@@ -7,7 +7,7 @@ use crate::walk::walk;
 use budget::refusal;
 
 // The component at place k lies from edge k to edge k + 1; the places behind the last edge are 0, and all are where refused.
-#[derive(Drop)]
+#[derive(Clone, Copy)]
 pub struct Contents {
     pub checked: Checked,
     pub edges: [usize; 257],

@@ -19,7 +19,7 @@ pub const MOST_COMPONENTS: usize = 256;
 
 // Where a walk stands: whether it goes on, its refusal, the byte where the next record begins, the components so far, the lowest
 // number that the next one may have, and the tasks of the last one so far.
-#[derive(Drop)]
+#[derive(Clone, Copy)]
 pub struct State {
     pub going: bool,
     pub refusal: u16,

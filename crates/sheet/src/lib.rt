@@ -1,4 +1,6 @@
 // The budget sheet: one walk over its components and tasks and one over the pairs behind them, which check it and find its components.
+#![tactic(auto)]
+
 pub mod check;
 pub mod contents;
 pub mod judging;

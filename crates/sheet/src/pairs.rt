@@ -13,7 +13,7 @@ use record::write::size_of;
 
 // Where the walk stands: whether it goes on, its refusal, the byte where the next record begins, and the lowest number that the next
 // child may have.
-#[derive(Drop)]
+#[derive(Clone, Copy)]
 pub struct Course {
     pub going: bool,
     pub refusal: u16,
@@ -22,7 +22,7 @@ pub struct Course {
 }
 
 // How the walk ended, and at which byte.
-#[derive(Drop)]
+#[derive(Clone, Copy)]
 pub struct Ends {
     pub refusal: u16,
     pub place: usize,

@@ -7,14 +7,14 @@ use crate::contents::contents_of;
 use budget::refusal;
 
 // Where the records of one component lie: from its own record to its last task's end.
-#[derive(Drop)]
+#[derive(Clone, Copy)]
 pub struct Span {
     pub from: usize,
     pub to: usize,
 }
 
 // Where the component at a place lies; refused: nowhere.
-#[derive(Drop)]
+#[derive(Clone, Copy)]
 pub struct Located {
     pub checked: Checked,
     pub span: Span,

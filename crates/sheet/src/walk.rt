@@ -9,7 +9,7 @@ use record::layout::record_of;
 
 // How the walk ends, and what it held last with each count of components: its place, the lowest number that may follow, and the tasks
 // of the last component; 0 behind the last count.
-#[derive(Drop)]
+#[derive(Clone, Copy)]
 pub struct Walked {
     pub state: State,
     pub edges: [usize; 257],

@@ -13,7 +13,7 @@ use budget::refusal;
 pub const LONGEST: usize = 65_536;
 
 // The answer to the trace question; refused: not legal.
-#[derive(Drop)]
+#[derive(Clone, Copy)]
 pub struct Legality {
     pub refusal: u16,
     pub legal: bool,

@@ -1,2 +1,4 @@
 // Legal supply: the trace question.
+#![tactic(auto)]
+
 pub mod legal;

@@ -12,7 +12,7 @@ use sheet::check::MOST_COMPONENTS;
 use sheet::contents::contents_of;
 
 // The pairs of a sheet, the first `count` of each row; the places behind them are zero.
-#[derive(Drop)]
+#[derive(Clone, Copy)]
 pub struct Pairs {
     pub count: usize,
     pub children: [u16; 256],
@@ -20,7 +20,7 @@ pub struct Pairs {
 }
 
 // What reading a pair answers; refused: both numbers are 0.
-#[derive(Drop)]
+#[derive(Clone, Copy)]
 pub struct PairReading {
     pub refusal: u16,
     pub place: usize,

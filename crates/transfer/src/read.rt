@@ -16,7 +16,7 @@ use sheet::check::MOST_COMPONENTS;
 use sheet::part::locate;
 
 // What a reading answers; refused: the component number 0, stated (1, 1, 1), without tasks, its common period 1.
-#[derive(Drop)]
+#[derive(Clone, Copy)]
 pub struct Reading {
     pub refusal: u16,
     pub place: usize,

@@ -17,7 +17,7 @@ use record::layout::{Record, record_of};
 use transfer::read::{part_at, read_at};
 
 // The numbers of the components that are wanted, the first `count`.
-#[derive(Drop)]
+#[derive(Clone, Copy)]
 pub struct Wanted {
     pub count: usize,
     pub numbers: [u16; 257],

@@ -11,7 +11,7 @@ use judge::answer::{Judged, Verdict};
 pub const WITHHELD: u32 = 4_294_967_295;
 
 // A component's number, the capacity that it is accepted with, its period and its deadline.
-#[derive(Drop)]
+#[derive(Clone, Copy)]
 pub struct Offer {
     pub number: u16,
     pub capacity: u32,

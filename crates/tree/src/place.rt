@@ -15,7 +15,7 @@ use transfer::read::read_at;
 
 // The number and the workload of the component at a place, or the sheet's refusal with its byte, then 15; refused: the number and component of a
 // refused reading.
-#[derive(Drop)]
+#[derive(Clone, Copy)]
 pub struct Loaded {
     pub refusal: u16,
     pub place: usize,
@@ -24,7 +24,7 @@ pub struct Loaded {
 }
 
 // What is answered at a place: the component's number and its outcome, or the sheet's refusal with its byte, then 15.
-#[derive(Drop)]
+#[derive(Clone, Copy)]
 pub enum Placed {
     Refused(u16, usize),
     Found(u16, Outcome),

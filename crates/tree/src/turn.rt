@@ -10,7 +10,7 @@ use crate::outcome::judge_next;
 use transfer::read::read_at;
 
 // The number of the component that was passed, and its outcome.
-#[derive(Drop)]
+#[derive(Clone, Copy)]
 pub struct Turn {
     pub number: u16,
     pub outcome: Outcome,
