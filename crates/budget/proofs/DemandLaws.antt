@@ -1,6 +1,6 @@
 -- Laws of demand. As the span D − J of a task is at most T, its jobs due by t number ⌊(t + T − span)/T⌋ without cases; the two bounds of that
 -- quotient fix the number, and every law of one task checks them. The laws of a table add up those of its tasks.
-use Prim.Native.Nat.{ℕ, zero, suc, ◌+◌, ◌-◌, ◌*◌, ◌/◌, ◌≤◌, ◌<◌, ◌∣◌, zero-le, suc-le-suc}
+use Prim.Native.Nat.{ℕ, suc, ◌+◌, ◌-◌, ◌*◌, ◌/◌, ◌≤◌, ◌<◌, ◌∣◌, zero-le, suc-le-suc}
 use mathlib.Core.Path.{◌≡◌, refl, sym, ap, ◌∙◌}
 use mathlib.Core.Bool.{Bool, true, false, cond}
 use mathlib.Core.List.{List, [], ◌∷◌, ◌++◌}
