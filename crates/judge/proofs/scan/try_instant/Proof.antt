@@ -49,10 +49,10 @@ tighter-requires : tie.Need-tighter-requires
 tighter-requires c κs =
     let s = c.before in
     let start = s.before.before in (
-      start.requires.best-fits,
+      start.requires.best_fits,
       record {
         units = le_trans (le_of_eq (given s)) (le_trans (supply_le_time _ (valid_interface_lem _ start.requires.interface) start.args.at) start.requires.bounded);
-        demand = start.requires.asked-fits;
+        demand = start.requires.asked_fits;
       },
     )
 

@@ -23,12 +23,12 @@ loop-holds c = (search rules, omega arith, passed_none _ _ _ _ _)
 add-deadline : tie.Need-overflow-add-deadline invariant-loop decreases-loop
 add-deadline c =
     let a = c.before.before.before.before in
-    omega (arith, a.before.requires.periods-fit a.loop.i c.before.before.before.loop-test.true, a.before.requires)
+    omega (arith, a.before.requires.periods_fit a.loop.i c.before.before.before.loop-test.true, a.before.requires)
 
 add-sum : tie.Need-overflow-add-sum invariant-loop decreases-loop
 add-sum c =
     let a = c.before.before.before.before.before in
-    omega (arith, a.before.requires.works-fit a.loop.i c.before.before.before.before.loop-test.true, a.before.requires, a.loop.invariant)
+    omega (arith, a.before.requires.works_fit a.loop.i c.before.before.before.before.loop-test.true, a.before.requires, a.loop.invariant)
 
 loop-again : tie.Need-loop-preserved invariant-loop decreases-loop
 loop-again c =
@@ -38,7 +38,7 @@ loop-again c =
     let least = c.earlier.ensures in (
       omega arith,
       ⊎_elim
-          (λ w. omega (arith, w.4, a.before.requires.works-fit a.loop.i h, a.loop.invariant))
+          (λ w. omega (arith, w.4, a.before.requires.works_fit a.loop.i h, a.loop.invariant))
           (λ w. omega (arith, w.2, a.loop.invariant))
           c.before.if1.branch,
       ⊎_elim

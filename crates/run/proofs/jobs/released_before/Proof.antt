@@ -24,15 +24,15 @@ loop-holds c = (search rules, refl)
 -- the answer for the release at the loop's place
 here : (c : tie.After-before-end invariant-loop decreases-loop) → let h = c.before.before.before in
     let a = h.before.args in
-    c.before-end.result ≡ lt_z (get_or a.releases.now h.loop.i (pos 0)) (pos a.end)
-here c = rw (read _ c.before.before-end-arg.given) at c.before-end.ensures
+    c.before_end.result ≡ lt_z (get_or a.releases.now h.loop.i (pos 0)) (pos a.end)
+here c = rw (read _ c.before.before-end-arg.given) at c.before_end.ensures
 
 returns : tie.Need-returns invariant-loop decreases-loop
 returns c =
     let v = c.before in
     let h = v.before.before.before in
     let a = h.before.args in
-    rw (h.loop.invariant.1, released_from_lem a.end a.releases.now h.loop.i v.before.before.loop-test.true, ← here v, not-true v.before-end.result c.if1.true)
+    rw (h.loop.invariant.1, released_from_lem a.end a.releases.now h.loop.i v.before.before.loop-test.true, ← here v, not-true v.before_end.result c.if1.true)
 
 loop-again : tie.Need-loop-preserved invariant-loop decreases-loop
 loop-again c =
@@ -42,7 +42,7 @@ loop-again c =
       search rules,
       h.loop.invariant.1
           ∙ released_from_lem a.end a.releases.now h.loop.i v.before.before.loop-test.true
-          ∙ rw (← here v, not-false v.before-end.result c.if1.false),
+          ∙ rw (← here v, not-false v.before_end.result c.if1.false),
     )
 
 returns-2 : tie.Need-returns-2 invariant-loop decreases-loop

@@ -28,12 +28,12 @@ table-fine c = sym c.before.check-table.ensures ∙ c.if1.false
 
 past-table : (c : tie.Else1) (b : Bool) → let a = (start c).args in
     b ≡ valid_jobs (tasks_of a.table) a.tasks.now a.releases.now a.ready.now a.works.now (length a.trace.now)
-    → refused (start c) ≡ cond b (cond (valid_trace a.trace.now) (cond (eqb a.room (length a.tasks.now)) 0 refusal.room) refusal.bad-trace) refusal.jobs
+    → refused (start c) ≡ cond b (cond (valid_trace a.trace.now) (cond (eqb a.room (length a.tasks.now)) 0 refusal.room) refusal.bad_trace) refusal.jobs
 unfolding walk_refusal
 past-table c b e = rw (eq-eqb _ 0 (table-fine c), ← e)
 
 past-jobs : (c : tie.Else2) (b : Bool) → let a = (start c.before.before).args in
-    b ≡ valid_trace a.trace.now → refused (start c.before.before) ≡ cond b (cond (eqb a.room (length a.tasks.now)) 0 refusal.room) refusal.bad-trace
+    b ≡ valid_trace a.trace.now → refused (start c.before.before) ≡ cond b (cond (eqb a.room (length a.tasks.now)) 0 refusal.room) refusal.bad_trace
 past-jobs c b e =
     past-table c.before.before c.before.check-jobs.result c.before.check-jobs.ensures
     ∙ rw (not-false c.before.check-jobs.result c.if2.false, ← e)

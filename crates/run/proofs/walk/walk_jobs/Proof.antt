@@ -23,7 +23,7 @@ deadlines-requires c κs =
     let s = c.before.before.before.before.before.before.before in
     let a = s.args in (
       (rules s).tasks.few,
-      (rules s).releases-long,
+      (rules s).releases_long,
       s.requires.1,
       job_fine a.table a.tasks.now a.releases.now a.ready.now a.works.now a.trace.now _ (room s) (rules s),
     )
@@ -31,17 +31,17 @@ deadlines-requires c κs =
 whole-work-requires : tie.Need-whole-work-requires
 whole-work-requires c κs =
     let s = c.before.before.before.before.before.before.before.before.before.before.before in
-    (rules s).room-is ∙ sym (rules s).works-long
+    (rules s).room_is ∙ sym (rules s).works_long
 
 walk-slots-requires : tie.Need-walk-slots-requires
 walk-slots-requires c κs =
     let w = c.before.before.before.before in
     let d = w.before.before.before.before in
     let s = d.before.before.before.before.before.before.before.before in
-    let long : length w.whole-work.new.1.0 ≡ length s.args.tasks.now = w.whole-work.auto.1.0 ∙ (rules s).room-is in (
+    let long : length w.whole-work.new.1.0 ≡ length s.args.tasks.now = w.whole-work.auto.1.0 ∙ (rules s).room_is in (
       d.deadlines.auto.1.1.1.0 ∙ s.requires.1 ∙ sym long,
       sym long,
-      (rules s).ready-long ∙ sym long,
+      (rules s).ready_long ∙ sym long,
       (rules s).short,
     )
 
@@ -53,7 +53,7 @@ returns c =
     let s = d.before.before.before.before.before.before.before.before in
     let a = s.args in
     let js = jobs_of a.tasks.now a.releases.now a.ready.now a.works.now in
-    let l = lists a.tasks.now a.releases.now a.ready.now a.works.now (rules s).releases-long (rules s).ready-long (rules s).works-long in
+    let l = lists a.tasks.now a.releases.now a.ready.now a.works.now (rules s).releases_long (rules s).ready_long (rules s).works_long in
     let done = v.walk-slots.ensures (tasks_of a.table) js (sym (d.deadlines.ensures js l.tasks l.releases)) l.tasks l.readiness
     (l.works ∙ sym w.whole-work.ensures) in (
       done.0 ∙ sym (answer_accepted a.table a.tasks.now a.releases.now a.ready.now a.works.now a.trace.now (length a.left.now) s.requires.0),

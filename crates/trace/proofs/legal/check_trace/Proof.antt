@@ -30,7 +30,7 @@ returns-3 c =
 
 -- past the other tests the bytes decide
 bytes : (i : Interface) (o : ℕ) (s : List ℕ) → interface_refusal i ≡ refusal.none → o < Π i → length s ≤ longest → (z : Bool) → z ≡ zeros_and_ones s
-    → cond z refusal.none refusal.bad-trace ≡ trace_refusal i o s
+    → cond z refusal.none refusal.bad_trace ≡ trace_refusal i o s
 unfolding trace_refusal
 bytes i o s e h l z q = rw (e, lt-ltb o (Π i) h, le-leb (length s) longest l, q)
 

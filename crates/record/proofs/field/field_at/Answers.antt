@@ -1,0 +1,34 @@
+-- From the highest byte down: the value is the field that begins at the byte read last.
+use native.Mathlib.Omega.{arith}
+use Rattle.record.proofs.FieldLoops.{read_none, read_more, read_all, small}
+use Prim.Native.Nat.{◌-◌}
+use Rattle.record.proofs.field.field_at.Goals as goal
+
+pub loop-unread-init : goal.loop-unread-init
+loop-unread-init c = let a = c.args in read_none a.bytes.now a.at a.width
+
+pub overflow_mul-value : goal.overflow_mul-value
+overflow_mul-value c = let a = c.args in let l = c.loop-unread in let h = small (a.width - l.unread) l.value (omega arith) l.invariant.fits in omega arith
+
+pub overflow_add-value : goal.overflow_add-value
+overflow_add-value c = let a = c.args in let l = c.loop-unread in let h = small (a.width - l.unread) l.value (omega arith) l.invariant.fits in omega arith
+
+pub loop-unread-preserved : goal.loop-unread-preserved
+loop-unread-preserved c = let a = c.args in let l = c.loop-unread in
+    read_more a.bytes.now a.at a.width l.value l.unread l.invariant c.wide.result c.loop-unread-test.true c.wide.ensures.0 c.wide.ensures.1
+
+pub returns : goal.returns
+returns c = let a = c.args in let l = c.loop-unread in
+    read_all a.bytes.now a.at a.width l.value l.unread l.invariant c.loop-unread-test.false
+
+pub overflow_sub-unread : goal.overflow_sub-unread
+overflow_sub-unread c = omega arith
+
+pub overflow_add-place : goal.overflow_add-place
+overflow_add-place c = omega arith
+
+pub bounds-bytes-place : goal.bounds-bytes-place
+bounds-bytes-place c = omega arith
+
+pub loop-unread-smaller : goal.loop-unread-smaller
+loop-unread-smaller c = omega arith

@@ -1,0 +1,54 @@
+-- Field by field: the fields left to store, put onto the part as it stands, give the last part.
+use Prim.Native.Nat.{◌-◌}
+use mathlib.Core.Path.{◌≡◌, refl, sym, ◌∙◌}
+use lib.ListN.{length}
+use Rattle.record.proofs.RowLoops.{storing_more, storing_all, next_length}
+use borrow.Author.Rules.{rules}
+use native.Mathlib.Omega.{arith}
+use Rattle.record.proofs.row.put_row.Goals as goal
+
+pub loop-i-init : goal.loop-i-init
+loop-i-init c = record { todo = refl; long = refl; here = omega arith }
+
+pub put_field-requires : goal.put_field-requires
+put_field-requires c = let a = c.args in let l = c.loop-i in
+    let n : length a.t2 ≡ 8 = search rules in
+    let e = next_length a.t2 l.i (omega arith) in omega (arith, l.invariant.long, l.invariant.here)
+
+pub overflow_add-place : goal.overflow_add-place
+overflow_add-place c = let a = c.args in let l = c.loop-i in
+    let n : length a.t2 ≡ 8 = search rules in
+    let e = next_length a.t2 l.i (omega arith) in omega (arith, l.invariant.long, l.invariant.here)
+
+pub loop-i-preserved : goal.loop-i-preserved
+loop-i-preserved c = let a = c.args in let l = c.loop-i in
+    let n : length a.t2 ≡ 8 = search rules in
+    let m : length a.t3 ≡ 8 = search rules in
+    storing_more a.part.now a.t2 a.t3 (m ∙ sym n) l.part l.place l.i l.invariant c.put_field.new.part (omega arith) c.put_field.ensures
+
+pub shape_of-part : goal.shape_of-part
+shape_of-part c = c.loop-i.invariant.long
+
+pub returns : goal.returns
+returns c = let a = c.args in let l = c.loop-i in
+    let n : length a.t2 ≡ 8 = search rules in
+    let m : length a.t3 ≡ 8 = search rules in
+    storing_all a.part.now a.t2 a.t3 (m ∙ sym n) l.part l.place l.i l.invariant (omega arith)
+
+pub offset_bounds-row-i : goal.offset_bounds-row-i
+offset_bounds-row-i c = omega arith
+
+pub bounds-row-i : goal.bounds-row-i
+bounds-row-i c = omega arith
+
+pub offset_bounds-values-i : goal.offset_bounds-values-i
+offset_bounds-values-i c = omega arith
+
+pub bounds-values-i : goal.bounds-values-i
+bounds-values-i c = omega arith
+
+pub overflow_add-i : goal.overflow_add-i
+overflow_add-i c = omega arith
+
+pub loop-i-smaller : goal.loop-i-smaller
+loop-i-smaller c = omega arith

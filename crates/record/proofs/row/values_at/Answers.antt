@@ -1,0 +1,51 @@
+-- What was read, and what stands in the fields that are left, are the values of the whole row.
+use Prim.Native.Nat.{◌-◌}
+use mathlib.Core.Path.{◌≡◌, refl, sym}
+use lib.ListN.{length}
+use Rattle.record.proofs.RowLoops.{none_held, reading_more, reading_all, next_length}
+use borrow.Author.Rules.{rules}
+use native.Mathlib.Omega.{arith}
+use Rattle.record.proofs.row.values_at.Goals as goal
+
+pub loop-i-init : goal.loop-i-init
+loop-i-init c = let a = c.args in
+    let n : length a.t2 ≡ 8 = search rules in
+    record { todo = refl; held = none_held a.t2 8; long = sym n; here = omega arith }
+
+pub field_at-requires : goal.field_at-requires
+field_at-requires c = let a = c.args in let l = c.loop-i in
+    let n : length a.t2 ≡ 8 = search rules in
+    let e = next_length a.t2 l.i (omega arith) in (omega (arith, l.invariant.here), c.requires.0 l.i)
+
+pub overflow_add-place : goal.overflow_add-place
+overflow_add-place c = let a = c.args in let l = c.loop-i in
+    let n : length a.t2 ≡ 8 = search rules in
+    let e = next_length a.t2 l.i (omega arith) in omega (arith, l.invariant.here)
+
+pub loop-i-preserved : goal.loop-i-preserved
+loop-i-preserved c = let a = c.args in let l = c.loop-i in
+    let n : length a.t2 ≡ 8 = search rules in
+    reading_more a.t2 a.bytes.now l.values l.place l.i l.invariant c.field_at.result (omega arith) c.field_at.ensures.value c.field_at.ensures.fits
+
+pub returns : goal.returns
+returns c = let a = c.args in let l = c.loop-i in
+    let n : length a.t2 ≡ 8 = search rules in
+    record { values = reading_all a.t2 a.bytes.now l.values l.place l.i l.invariant (omega arith); fit = l.invariant.held }
+
+pub offset_bounds-row-i : goal.offset_bounds-row-i
+offset_bounds-row-i c = omega arith
+
+pub bounds-row-i : goal.bounds-row-i
+bounds-row-i c = omega arith
+
+pub offset_bounds-values-i : goal.offset_bounds-values-i
+offset_bounds-values-i c = omega arith
+
+pub bounds-values-i : goal.bounds-values-i
+bounds-values-i c = omega arith
+
+pub overflow_add-i : goal.overflow_add-i
+overflow_add-i c = omega arith
+
+pub loop-i-smaller : goal.loop-i-smaller
+loop-i-smaller c = omega arith
