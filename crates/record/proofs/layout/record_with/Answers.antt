@@ -10,43 +10,43 @@ use Rattle.record.proofs.layout.record_with.Goals as goal
 
 pub stated_of-requires : goal.stated_of-requires
 unfolding row_of
-stated_of-requires c = rw c.in-1.keys1 at (c.requires 2)
+stated_of-requires c = rw c.in-1.is at (c.requires 2)
 
 pub number-requires : goal.number-requires
 unfolding row_of
-number-requires c = rw c.in-3.keys3 at (c.requires 2)
+number-requires c = rw c.in-3.is at (c.requires 2)
 
 pub asked_of-requires : goal.asked_of-requires
 unfolding row_of
-asked_of-requires c = rw c.in-4.keys4 at (c.requires 2)
+asked_of-requires c = rw c.in-4.is at (c.requires 2)
 
 pub pair_of-requires : goal.pair_of-requires
 unfolding row_of
-pair_of-requires c = (rw c.in-6.keys6 at (c.requires 2), rw c.in-6.keys6 at (c.requires 3))
+pair_of-requires c = (rw c.in-6.is at (c.requires 2), rw c.in-6.is at (c.requires 3))
 
 pub returns-in-1 : goal.returns-in-1
 unfolding record_with
-returns-in-1 c = rw c.in-1.keys1 (ap ComponentRecord c.stated_of.ensures)
+returns-in-1 c = rw c.in-1.is (ap ComponentRecord c.stated_of.ensures)
 
 pub returns-in-2 : goal.returns-in-2
 unfolding record_with
-returns-in-2 c = rw c.in-2.keys2 (ap (λ (k : Task). TaskRecord false k) c.task_of.ensures)
+returns-in-2 c = rw c.in-2.is (ap (λ (k : Task). TaskRecord false k) c.task_of.ensures)
 
 pub returns-in-3 : goal.returns-in-3
 unfolding record_with
-returns-in-3 c = rw c.in-3.keys3 (ap EndRecord c.number.ensures)
+returns-in-3 c = rw c.in-3.is (ap EndRecord c.number.ensures)
 
 pub returns-in-4 : goal.returns-in-4
 unfolding record_with
-returns-in-4 c = rw c.in-4.keys4 (ap ComponentRecord c.asked_of.ensures)
+returns-in-4 c = rw c.in-4.is (ap ComponentRecord c.asked_of.ensures)
 
 pub returns-in-5 : goal.returns-in-5
 unfolding record_with
-returns-in-5 c = rw c.in-5.keys5 (ap (λ (k : Task). TaskRecord true k) c.task_of-in-5.ensures)
+returns-in-5 c = rw c.in-5.is (ap (λ (k : Task). TaskRecord true k) c.task_of-in-5.ensures)
 
 pub returns-in-6 : goal.returns-in-6
 unfolding record_with
-returns-in-6 c = rw c.in-6.keys6 (ap PairRecord c.pair_of.ensures)
+returns-in-6 c = rw c.in-6.is (ap PairRecord c.pair_of.ensures)
 
 pub task_of-requires : goal.task_of-requires
 unfolding record_with

@@ -12,28 +12,28 @@ loop-i-init c = record { todo = refl; long = refl; here = omega arith }
 
 pub put_field-requires : goal.put_field-requires
 put_field-requires c = let a = c.args in let l = c.loop-i in
-    let n : length a.t2 ≡ 8 = search rules in
-    let e = next_length a.t2 l.i (omega arith) in omega (arith, l.invariant.long, l.invariant.here)
+    let n : length a.row ≡ 8 = search rules in
+    let e = next_length a.row l.i (omega arith) in omega (arith, l.invariant.long, l.invariant.here)
 
 pub overflow_add-place : goal.overflow_add-place
 overflow_add-place c = let a = c.args in let l = c.loop-i in
-    let n : length a.t2 ≡ 8 = search rules in
-    let e = next_length a.t2 l.i (omega arith) in omega (arith, l.invariant.long, l.invariant.here)
+    let n : length a.row ≡ 8 = search rules in
+    let e = next_length a.row l.i (omega arith) in omega (arith, l.invariant.long, l.invariant.here)
 
 pub loop-i-preserved : goal.loop-i-preserved
 loop-i-preserved c = let a = c.args in let l = c.loop-i in
-    let n : length a.t2 ≡ 8 = search rules in
-    let m : length a.t3 ≡ 8 = search rules in
-    storing_more a.part.now a.t2 a.t3 (m ∙ sym n) l.part l.place l.i l.invariant c.put_field.new.part (omega arith) c.put_field.ensures
+    let n : length a.row ≡ 8 = search rules in
+    let m : length a.values ≡ 8 = search rules in
+    storing_more a.part.now a.row a.values (m ∙ sym n) l.part l.place l.i l.invariant c.put_field.new.part (omega arith) c.put_field.ensures
 
 pub shape_of-part : goal.shape_of-part
 shape_of-part c = c.loop-i.invariant.long
 
 pub returns : goal.returns
 returns c = let a = c.args in let l = c.loop-i in
-    let n : length a.t2 ≡ 8 = search rules in
-    let m : length a.t3 ≡ 8 = search rules in
-    storing_all a.part.now a.t2 a.t3 (m ∙ sym n) l.part l.place l.i l.invariant (omega arith)
+    let n : length a.row ≡ 8 = search rules in
+    let m : length a.values ≡ 8 = search rules in
+    storing_all a.part.now a.row a.values (m ∙ sym n) l.part l.place l.i l.invariant (omega arith)
 
 pub offset_bounds-row-i : goal.offset_bounds-row-i
 offset_bounds-row-i c = omega arith

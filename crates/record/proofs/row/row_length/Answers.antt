@@ -10,19 +10,19 @@ use Rattle.record.proofs.row.row_length.Goals as goal
 
 pub overflow_add-sum : goal.overflow_add-sum
 overflow_add-sum c = let a = c.args in let l = c.loop-i in
-    let n : length a.t1 ≡ 8 = search rules in
-    let s = narrow_short a.t1 c.requires in
-    let e = next_length a.t1 l.i (omega arith) in omega (arith, l.invariant)
+    let n : length a.row ≡ 8 = search rules in
+    let s = narrow_short a.row c.requires in
+    let e = next_length a.row l.i (omega arith) in omega (arith, l.invariant)
 
 pub loop-i-preserved : goal.loop-i-preserved
 loop-i-preserved c = let a = c.args in let l = c.loop-i in
-    let n : length a.t1 ≡ 8 = search rules in
-    let e = next_length a.t1 l.i (omega arith) in omega (arith, l.invariant)
+    let n : length a.row ≡ 8 = search rules in
+    let e = next_length a.row l.i (omega arith) in omega (arith, l.invariant)
 
 pub returns : goal.returns
 returns c = let a = c.args in let l = c.loop-i in
-    let n : length a.t1 ≡ 8 = search rules in
-    let e = ap row_length (none_left a.t1 l.i (omega arith)) in omega (arith, l.invariant)
+    let n : length a.row ≡ 8 = search rules in
+    let e = ap row_length (none_left a.row l.i (omega arith)) in omega (arith, l.invariant)
 
 pub loop-i-init : goal.loop-i-init
 loop-i-init c = omega arith

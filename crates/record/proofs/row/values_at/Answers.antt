@@ -9,28 +9,28 @@ use Rattle.record.proofs.row.values_at.Goals as goal
 
 pub loop-i-init : goal.loop-i-init
 loop-i-init c = let a = c.args in
-    let n : length a.t2 ≡ 8 = search rules in
-    record { todo = refl; held = none_held a.t2 8; long = sym n; here = omega arith }
+    let n : length a.row ≡ 8 = search rules in
+    record { todo = refl; held = none_held a.row 8; long = sym n; here = omega arith }
 
 pub field_at-requires : goal.field_at-requires
 field_at-requires c = let a = c.args in let l = c.loop-i in
-    let n : length a.t2 ≡ 8 = search rules in
-    let e = next_length a.t2 l.i (omega arith) in (omega (arith, l.invariant.here), c.requires.0 l.i)
+    let n : length a.row ≡ 8 = search rules in
+    let e = next_length a.row l.i (omega arith) in (omega (arith, l.invariant.here), c.requires.0 l.i)
 
 pub overflow_add-place : goal.overflow_add-place
 overflow_add-place c = let a = c.args in let l = c.loop-i in
-    let n : length a.t2 ≡ 8 = search rules in
-    let e = next_length a.t2 l.i (omega arith) in omega (arith, l.invariant.here)
+    let n : length a.row ≡ 8 = search rules in
+    let e = next_length a.row l.i (omega arith) in omega (arith, l.invariant.here)
 
 pub loop-i-preserved : goal.loop-i-preserved
 loop-i-preserved c = let a = c.args in let l = c.loop-i in
-    let n : length a.t2 ≡ 8 = search rules in
-    reading_more a.t2 a.bytes.now l.values l.place l.i l.invariant c.field_at.result (omega arith) c.field_at.ensures.value c.field_at.ensures.fits
+    let n : length a.row ≡ 8 = search rules in
+    reading_more a.row a.bytes.now l.values l.place l.i l.invariant c.field_at.result (omega arith) c.field_at.ensures.value c.field_at.ensures.fits
 
 pub returns : goal.returns
 returns c = let a = c.args in let l = c.loop-i in
-    let n : length a.t2 ≡ 8 = search rules in
-    record { values = reading_all a.t2 a.bytes.now l.values l.place l.i l.invariant (omega arith); fit = l.invariant.held }
+    let n : length a.row ≡ 8 = search rules in
+    record { values = reading_all a.row a.bytes.now l.values l.place l.i l.invariant (omega arith); fit = l.invariant.held }
 
 pub offset_bounds-row-i : goal.offset_bounds-row-i
 offset_bounds-row-i c = omega arith
