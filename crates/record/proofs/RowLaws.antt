@@ -24,6 +24,8 @@ row_length_lem (w ∷ ws) (v ∷ vs) = length-append (encode w v) (row_bytes ws 
 -- behind any other bytes
 pub values_back : (front ws vs rest : List ℕ) → Fit ws vs → values_at ws (front ++ (row_bytes ws vs ++ rest)) (length front) ≡ vs
 values_back front [] [] rest f = refl
+values_back front [] (v ∷ vs) rest f = elim f [ ]
+values_back front (w ∷ ws) [] rest f = elim f [ ]
 values_back front (w ∷ ws) (v ∷ vs) rest f =
     let more = row_bytes ws vs ++ rest in
     let here : field (front ++ (encode w v ++ more)) (length front) w ≡ v =

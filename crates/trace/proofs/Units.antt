@@ -58,7 +58,7 @@ supplied_front s zero = refl
 supplied_front [] (suc n) = sym (units_none 0 (suc n))
 supplied_front (b ∷ s) (suc n) =
     rw (units_front (λ m. get_or (b ∷ s) m 0) 0 n, supplied_front s n)
-    (ap (λ (k : ℕ). b + k) (units_same _ _ 0 1 n (λ m l. rw (zero-add m, suc-add 0 m, zero-add m))))
+    (ap (λ (k : ℕ). b + k) (units_same (λ m. get_or s m 0) (λ m. get_or (b ∷ s) m 0) 0 1 n (λ m l. rw (zero-add m, suc-add 0 m, zero-add m))))
 
 pub supplied_part : (s : List ℕ) (a n : ℕ) → supplied (take n (drop a s)) ≡ units (λ m. get_or s m 0) a n
 supplied_part s a n =

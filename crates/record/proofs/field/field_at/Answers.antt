@@ -19,7 +19,8 @@ loop-unread-preserved c = let a = c.args in let l = c.loop-unread in
 
 pub returns : goal.returns
 returns c = let a = c.args in let l = c.loop-unread in
-    read_all a.bytes.now a.at a.width l.value l.unread l.invariant c.loop-unread-test.false
+    let read = read_all a.bytes.now a.at a.width l.value l.unread l.invariant c.loop-unread-test.false in
+    record { value = read.0; fits = read.1 }
 
 pub overflow_sub-unread : goal.overflow_sub-unread
 overflow_sub-unread c = omega arith
