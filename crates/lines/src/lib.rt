@@ -100,7 +100,7 @@ fn stop_told(rt: &impl Eprint, held: usize, why: &str) -> Held
 
 // Reads once behind the bytes held. Where the row has no room, the line is too long to be a call: that, and a read that fails,
 // is said on standard error and ends the input.
-fn read_behind(row: &mut [u8], held: usize, input: &mut impl Read, rt: &impl Eprint) -> Held
+fn read_behind(rt: &impl Eprint, input: &mut impl Read, row: &mut [u8], held: usize) -> Held
     ensures { Behind row.old held row.new result }
 {
     if held >= row.len() {
@@ -118,7 +118,7 @@ fn read_behind(row: &mut [u8], held: usize, input: &mut impl Read, rt: &impl Epr
 }
 
 // Reads once, where no line is whole: what is held moves to the front, and what is read goes behind it.
-pub fn read_more(row: &mut [u8], held: Held, input: &mut impl Read, rt: &impl Eprint) -> Held
+pub fn read_more(rt: &impl Eprint, input: &mut impl Read, row: &mut [u8], held: Held) -> Held
     ensures { Refilled row.old held row.new result }
 {
     let start = held.start;
@@ -130,5 +130,5 @@ pub fn read_more(row: &mut [u8], held: Held, input: &mut impl Read, rt: &impl Ep
         return stopped(0);
     }
     let kept = keep_rest(row, start, end);
-    read_behind(row, kept, input, rt)
+    read_behind(rt, input, row, kept)
 }

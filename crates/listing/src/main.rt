@@ -15,7 +15,7 @@ pub struct Input {
 }
 
 // Reads once behind the bytes held.
-fn read_behind(row: &mut [u8], held: usize, input: &mut impl Read) -> Input
+fn read_behind(input: &mut impl Read, row: &mut [u8], held: usize) -> Input
     requires { held ≤ length row.old }
     ensures { held + result.count ≤ length row.new }
 {
@@ -32,12 +32,12 @@ fn read_behind(row: &mut [u8], held: usize, input: &mut impl Read) -> Input
 }
 
 // Reads until the row is full or the input ends.
-fn read_sheet(row: &mut [u8], from: &mut impl Read) -> Input
+fn read_sheet(from: &mut impl Read, row: &mut [u8]) -> Input
     ensures { result.count ≤ length row.new }
 {
     let mut held = 0;
     while held < row.len() {
-        let input = read_behind(row, held, from);
+        let input = read_behind(from, row, held);
         if input.failed {
             return input;
         }
@@ -63,7 +63,7 @@ fn print_listing(rt: &(impl Print + Eprint), sheet: &[u8]) {
 // One byte more than a sheet has at most is read, so that a longer input is refused.
 fn main(rt: HostRuntime) {
     let mut row = [0u8; 65537];
-    let input = read_sheet(&mut row, &mut rt.stdin());
+    let input = read_sheet(&mut rt.stdin(), &mut row);
     if input.failed {
         let _ = rt.eprintln("listing: standard input can't be read");
         return;
