@@ -1,4 +1,5 @@
 // An answer is put into a lent row from a place on, and each function answers the next place; what does not fit is left out.
+use itoa::Buffer;
 
 pub fn put_byte(out: &mut [u8], at: usize, byte: u8) -> usize {
     if at < out.len() {
@@ -20,9 +21,8 @@ pub fn put_text(out: &mut [u8], start: usize, text: &[u8]) -> usize {
 
 // Puts a number.
 pub fn put_digits(out: &mut [u8], start: usize, value: u64) -> usize {
-    let mut digits = [0u8; 20];
-    let count = io::decimal(value, &mut digits);
-    put_text(out, start, &digits[..count])
+    let mut digits = Buffer::new();
+    put_text(out, start, digits.format(value).as_bytes())
 }
 
 // Puts a space and a number.

@@ -1,6 +1,6 @@
 // Rows of bytes and lists of numbers, read into what the caller lends.
 ghost use Rattle.std.specs.Prelude.{◌≤◌, ◌≡◌, length, take};
-ghost use Rattle.io.specs.Counts.{IsPrefixLen};
+ghost use Rattle.calls.specs.Counts.{IsPrefixLen};
 
 use crate::words;
 

@@ -3,7 +3,7 @@
 
 ghost use Rattle.lines.specs.Lines.{Behind, Kept, LineEnd, Refilled, Stopped, Taken, Unread};
 
-use libc::{STDERR_FILENO, STDIN_FILENO};
+use std::io::Read;
 
 // What is held of the input in a row: the lines that are taken end at `start`, no line ends from there to `seen`, and the row
 // holds the bytes up to `end`. Once it is not open, nothing more is read.
@@ -90,32 +90,35 @@ pub fn stopped(end: usize) -> Held
     }
 }
 
+// Says on standard error why the input ends here. Where that can't be said, the input ends all the same.
+fn stop_told(rt: &impl Eprint, held: usize, why: &str) -> Held
+    ensures { Stopped held result }
+{
+    let _ = rt.eprintln(why);
+    stopped(held)
+}
+
 // Reads once behind the bytes held. Where the row has no room, the line is too long to be a call: that, and a read that fails,
 // is said on standard error and ends the input.
-fn read_behind(row: &mut [u8], held: usize) -> Held
+fn read_behind(rt: &impl Eprint, input: &mut impl Read, row: &mut [u8], held: usize) -> Held
     ensures { Behind row.old held row.new result }
 {
     if held >= row.len() {
-        io::write_all(STDERR_FILENO, b"a line is too long to be a call; stopped\n");
-        return stopped(held);
+        return stop_told(rt, held, "a line is too long to be a call; stopped");
     }
-    let rest = &mut row[held..];
-    let got = libc::read(STDIN_FILENO, rest);
-    if got < 0 {
-        io::write_all(STDERR_FILENO, b"reading the calls failed; stopped\n");
-        return stopped(held);
-    }
-    let more = io::count(got, rest);
-    Held {
-        start: 0,
-        seen: held,
-        end: held + more,
-        open: more > 0,
+    match input.read(&mut row[held..]) {
+        Ok(more) => Held {
+            start: 0,
+            seen: held,
+            end: held + more,
+            open: more > 0,
+        },
+        Err(_) => stop_told(rt, held, "reading the calls failed; stopped"),
     }
 }
 
 // Reads once, where no line is whole: what is held moves to the front, and what is read goes behind it.
-pub fn read_more(row: &mut [u8], held: Held) -> Held
+pub fn read_more(rt: &impl Eprint, input: &mut impl Read, row: &mut [u8], held: Held) -> Held
     ensures { Refilled row.old held row.new result }
 {
     let start = held.start;
@@ -127,5 +130,5 @@ pub fn read_more(row: &mut [u8], held: Held) -> Held
         return stopped(0);
     }
     let kept = keep_rest(row, start, end);
-    read_behind(row, kept)
+    read_behind(rt, input, row, kept)
 }

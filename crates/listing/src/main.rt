@@ -3,10 +3,9 @@
 #![tactic(auto)]
 
 ghost use Rattle.std.specs.Prelude.{◌+◌, ◌≤◌, length};
-ghost use Rattle.io.specs.Counts.{IsPrefixLen};
 
-use libc::{STDERR_FILENO, STDIN_FILENO, STDOUT_FILENO};
 use report::listing::listing;
+use std::io::Read;
 
 // What was read: so many bytes, or a failure.
 #[derive(Clone, Copy)]
@@ -16,26 +15,29 @@ pub struct Input {
 }
 
 // Reads once behind the bytes held.
-fn read_behind(row: &mut [u8], held: usize) -> Input
+fn read_behind(input: &mut impl Read, row: &mut [u8], held: usize) -> Input
     requires { held ≤ length row.old }
     ensures { held + result.count ≤ length row.new }
 {
-    let rest = &mut row[held..];
-    let got = libc::read(STDIN_FILENO, rest);
-    let count = io::count(got, rest);
-    Input {
-        count,
-        failed: got < 0,
+    match input.read(&mut row[held..]) {
+        Ok(count) => Input {
+            count,
+            failed: false,
+        },
+        Err(_) => Input {
+            count: 0,
+            failed: true,
+        },
     }
 }
 
 // Reads until the row is full or the input ends.
-fn read_sheet(row: &mut [u8]) -> Input
-    ensures { IsPrefixLen result.count row.new }
+fn read_sheet(from: &mut impl Read, row: &mut [u8]) -> Input
+    ensures { result.count ≤ length row.new }
 {
     let mut held = 0;
     while held < row.len() {
-        let input = read_behind(row, held);
+        let input = read_behind(from, row, held);
         if input.failed {
             return input;
         }
@@ -50,25 +52,22 @@ fn read_sheet(row: &mut [u8]) -> Input
     }
 }
 
-fn print_listing(sheet: &[u8]) {
+fn print_listing(rt: &(impl Print + Eprint), sheet: &[u8]) {
     let mut page = [0u8; 16448];
     let n = listing(sheet, &mut page);
-    if !io::write_all(STDOUT_FILENO, &page[..n]) {
-        io::write_all(
-            STDERR_FILENO,
-            b"listing: standard output can't be written\n",
-        );
+    if rt.write_all(&page[..n]).is_err() {
+        let _ = rt.eprintln("listing: standard output can't be written");
     }
 }
 
 // One byte more than a sheet has at most is read, so that a longer input is refused.
-fn main() {
+fn main(rt: HostRuntime) {
     let mut row = [0u8; 65537];
-    let input = read_sheet(&mut row);
+    let input = read_sheet(&mut rt.stdin(), &mut row);
     if input.failed {
-        io::write_all(STDERR_FILENO, b"listing: standard input can't be read\n");
+        let _ = rt.eprintln("listing: standard input can't be read");
         return;
     }
     let n = input.count;
-    print_listing(&row[..n]);
+    print_listing(&rt, &row[..n]);
 }

@@ -1,0 +1,2 @@
+-- What the contracts of `calls` cite.
+pub mod Counts
