@@ -1,6 +1,5 @@
 -- From the highest byte down: the value is the field that begins at the byte read last.
 use Rattle.record.proofs.FieldLoops.{Read}
-use Prim.Native.Nat.{◌-◌}
 use Rattle.record.proofs.field.field_at.Given as goal
 
 abbrev pub invariant-loop-unread : goal.invariant-loop-unread

@@ -1,5 +1,4 @@
 -- Field by field: the fields left to store, put onto the part as it stands, give the last part.
-use Prim.Native.Nat.{◌-◌}
 use mathlib.Core.Path.{◌≡◌, refl, sym, ◌∙◌}
 use lib.ListN.{length}
 use Rattle.record.proofs.RowLoops.{storing_more, storing_all, next_length}

@@ -1,5 +1,4 @@
 -- What was summed and what is left of the row give the whole.
-use Prim.Native.Nat.{◌-◌}
 use mathlib.Core.Path.{◌≡◌, ap}
 use lib.ListN.{length}
 use Rattle.record.specs.Row.{row_length}

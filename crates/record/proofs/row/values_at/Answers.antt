@@ -1,5 +1,4 @@
 -- What was read, and what stands in the fields that are left, are the values of the whole row.
-use Prim.Native.Nat.{◌-◌}
 use mathlib.Core.Path.{◌≡◌, refl, sym}
 use lib.ListN.{length}
 use Rattle.record.proofs.RowLoops.{none_held, reading_more, reading_all, next_length}

@@ -1,5 +1,5 @@
 -- The bytes are zeros and ones exactly if those not yet passed are; a byte above 1 says no.
-use Prim.Native.Nat.{ℕ, ◌+◌, ◌-◌, ◌<◌}
+use Prim.Native.Nat.{ℕ, ◌+◌, ◌<◌}
 use mathlib.Core.Path.{◌≡◌, refl}
 use mathlib.Core.Bool.{◌&&◌}
 use mathlib.Core.List.{List}
