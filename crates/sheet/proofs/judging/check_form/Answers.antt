@@ -12,6 +12,6 @@ pub returns : goal.returns
 unfolding form_refusal
 returns c =
     elim c.else-stated.branch [
-      else-stated-via-then-stated+else-lateness-eq0 w ↦ rw (w.if-stated.true, ne_eqb _ _ w.if-lateness-eq0.false) c.check_task.ensures
+      | else-stated-via-then-stated+else-lateness-eq0 w ↦ rw (w.if-stated.true, ne_eqb _ _ w.if-lateness-eq0.false) c.check_task.ensures
       | else-stated-via-else-stated w ↦ rw w.if-stated.false c.check_task.ensures
     ]

@@ -1,5 +1,4 @@
 -- The loop's invariant: the places before this one are passed, so that the answer from the first on is the answer from here.
-use Prim.Native.Nat.{◌-◌}
 use native.Mathlib.Omega.{arith}
 use Rattle.sheet.proofs.SoughtLaws.{seek_first, seek_found, seek_next, seek_over}
 use Rattle.sheet.proofs.pairs.find.Goals as goal

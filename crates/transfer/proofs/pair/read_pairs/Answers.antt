@@ -1,5 +1,4 @@
 -- The loop's invariant: the pairs read so far, and those still to be read from the place reached, are all the pairs.
-use Prim.Native.Nat.{◌-◌}
 use native.Mathlib.Omega.{arith}
 use mathlib.Core.Path.{refl}
 use Rattle.transfer.specs.Pairing.{pair_then}

@@ -1,5 +1,5 @@
 -- What was summed and what is left of the tasks give the whole.
-use Prim.Native.Nat.{◌+◌, ◌-◌, ◌≤◌}
+use Prim.Native.Nat.{◌+◌, ◌≤◌}
 use mathlib.Core.Path.{◌≡◌, ap, ◌∙◌}
 use lib.ListN.{length, take, drop}
 use native.Mathlib.Omega.{arith}

@@ -1,5 +1,5 @@
 -- The loop's invariant: the tasks left to store, put onto the buffer as it stands, give the last buffer.
-use Prim.Native.Nat.{◌-◌, ◌≤◌}
+use Prim.Native.Nat.{◌≤◌}
 use lib.ListN.{length}
 use Rattle.transfer.proofs.StoreLaws.{storing_none, storing_more, storing_all}
 use Rattle.budget.proofs.Places.{in_array}
