@@ -57,6 +57,7 @@ fn find(lowest: &[u32; 257], count: usize, number: u16) -> usize
 
 // The refusals of a pair: 16, then 6 where its parent is full. Its two components are given by their places, 0 where there is none, and
 // its parent by what it holds too.
+#[tactic(auto, unfolding(crate::specs::inner::PairCourse::answered))]
 fn check_pair(lowest: u32, child: usize, parent: usize, load: usize, pair: Pair) -> u16
     ensures { result ≡ answered lowest child parent load pair }
 {
