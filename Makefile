@@ -11,7 +11,7 @@ help:
 	@echo '                 into PREFIX (/usr/local), below the folder DESTDIR where it is given'
 	@echo 'make uninstall   take the same files away'
 	@echo 'make measure     stack and time of the calls on the hardest sheets, in RUNS (5) runs'
-	@echo './test           prove everything from nothing and test it'
+	@echo './test           prove everything and test it'
 
 build install uninstall measure:
 	@scripts/install $@

@@ -5,8 +5,8 @@
  * the layout of the records byte by byte in section 10, the refusal numbers in 12 and these calls in 14.
  *
  * Linking. The archive libjougsilver.a is x86-64 code that needs nothing but memcpy and memset of the C library, and can
- * stand in a shared library too. At the top of the repository `rt staticlib jougsilver` proves it and writes
- * target/staticlib/libjougsilver.a; `make install PREFIX=...` puts it, with this file, where
+ * stand in a shared library too. At the top of the repository `make build` proves it and leaves it as
+ * target/libjougsilver.a; `make install PREFIX=...` puts it, with this file, where
  * `pkg-config --cflags --libs jougsilver` finds it.
  *
  * Calls. Each is a plain function of its arguments: it keeps no memory and no state between calls, allocates nothing,
@@ -19,7 +19,8 @@
  * number means in words, and the fields of a reply, are for the small functions at the end of this file, which are the
  * host's own code and not proved.
  *
- * Stack and time, measured by tests/outside/worst.c (`make measure`) and not proved. On a thread whose stack was filled with
+ * Stack and time, measured by tests/outside/worst.c (`make measure`) and not proved. The figures are those of an archive that
+ * an older kit compiled; the tests hold every archive to JOUGSILVER_STACK. On a thread whose stack was filled with
  * one byte beforehand no call on the sheets tried touched more than 27,399 bytes of it, and 28,887 the first call of a
  * program, which has the C library's linker resolve memcpy on the way; jougsilver_judge_all touched 21,735 of it and
  * jougsilver_check 12,711. JOUGSILVER_STACK is more than twice that. The longest judgement of one component known is an asked

@@ -5,17 +5,17 @@
 # The programs: listing and exercise (proved), panel (the C host over the proved archive), second (the second program); `ready archive` is
 # for who links the exported calls.
 # What `ready` made ready is kept as a copy, named by its content, at ${kept[NAME]}, and `program` runs that copy: so what runs is what was
-# checked, whoever builds meanwhile. Without `ready` before it, `program` runs what stands under target/.
+# checked, whoever builds meanwhile. Without `ready` before it, `program` runs what was built last, by `ready` or by `rt ci`.
 root=$(CDPATH='' cd -- "$(dirname -- "${BASH_SOURCE[0]}")/.." && pwd -P)
 declare -A kept=()
 second=$root/target/second/release/second
 tell() { printf '%s: %s\n' "${0##*/}" "$*" >&2 || :; }
 
-# Programs are x86-64 code. They run under the kit's loader and C library, and on another processor under the kit's emulator.
+# Programs are x86-64 code. They run under the kit's loader and C library, and on another processor under the kit's emulator, where it has one.
 tools= emulator=
 if command -v rt >/dev/null 2>&1; then
-    tools=$(dirname -- "$(dirname -- "$(rt doc)")")/on/$(uname -m)/toolchain
-    [ ! -x "$tools/bin/qemu-x86_64" ] || emulator=$tools/bin/qemu-x86_64
+    tools=$(dirname -- "$(rt doc)")/toolchain
+    [ "$(uname -m)" = x86_64 ] || [ ! -x "$tools/bin/qemu-x86_64" ] || emulator=$tools/bin/qemu-x86_64
 fi
 
 # Where a program stands.
@@ -24,7 +24,7 @@ file_of() { # NAME
     second) echo "$second" ;;
     panel) echo "$root/target/panel" ;;
     archive) echo "$archive" ;;
-    *) echo "$root/target/bin/$1" ;;
+    *) echo "$root/crates/$1/out/$1" ;;
     esac
 }
 
@@ -67,7 +67,7 @@ keep() { # NAME
     kept[$1]=$copy
 }
 
-# One command at a time works under target/: the lock is on a file there, and lasts as long as this shell, or a build that it started, lives.
+# One command at a time builds here: the lock is on a file under target/, and lasts as long as this shell, or a build that it started, lives.
 locked() {
     local lock=$root/target/lock
     need flock util-linux || return
@@ -84,31 +84,30 @@ locked() {
     }
 }
 
-# Proves a crate and what it stands on, as far as something changed since it was last proved. A program that was proved and then removed
-# is built again.
-prove() { run_rt "$1" check "$1"; } # NAME
-prove_program() {                   # NAME
-    prove "$1" || return
-    [ ! -x "$(file_of "$1")" ] || return 0
-    rm -f -- "$root/target/stamp/$1"
-    prove "$1"
-}
+# Proves a program and what it stands on, as far as something changed since it was last proved, and links it; one that was proved and then
+# removed is linked again. rt has no command that builds a program and leaves it at that, so it also runs here, on no input; what it prints
+# goes into the log.
+prove_program() { run_rt "$1" run; } # NAME
 
-# Runs rt on a crate, a line on standard error for each crate as it is proved; nothing is said where nothing is to be done.
+# Runs rt in a crate's folder, a line on standard error for each crate as it is proved; nothing is said where nothing is to be done.
 run_rt() { # NAME WORD...
-    local log=$root/target/ready-$1.log what=$1
+    local log=$root/target/ready-$1.log what=$1 failing
     need rt || return
     shift
-    (cd -- "$root" && exec rt "$@") </dev/null 2>&1 | tee -- "$log" | progress "$what" "$log"
+    (cd -- "$root/crates/$what" && exec rt "$@") </dev/null 2>&1 | tee -- "$log" | progress "$what" "$log"
     [ "${PIPESTATUS[0]}" -eq 0 ] || {
+        failing=$(sed -n 's/^rt: the library \([a-z0-9_]*\) did not build,.*/\1/p' "$log" | tail -n 1)
+        tell "${failing:-$what} NOT PROVED"
         tell "$what is not proved as its sources stand, so it is not run. The end of $log:"
         tail -n 20 -- "$log" | cut -c 1-400 >&2
         return 1
     }
 }
 
+# The lines that rt has for a crate end with one that names it and one that says whether it is proved. The seconds are counted from the
+# crate before it.
 progress() { # NAME LOG
-    local line begun= status
+    local line begun= status crate=$1 since=$SECONDS
     while :; do
         status=0
         IFS= read -r -t 3 line || status=$?
@@ -119,8 +118,11 @@ progress() { # NAME LOG
             return 0
         else
             case $line in
-            'rt: '*' proved (unchanged '*) ;;
-            'rt: '*' proved ('* | 'rt: '*' NOT PROVED'*) tell "${line#rt: }" ;;
+            'crate '*': modules loaded='*) crate=${line#crate } crate=${crate%%:*} ;;
+            'logic=proved '*)
+                tell "$crate proved ($((SECONDS - since)) s)"
+                since=$SECONDS
+                ;;
             esac
         fi
     done
@@ -152,12 +154,28 @@ host_compiler() {
     fi
 }
 
-# The archive of the exported calls. rt makes it anew at each call, so it is kept with the stamp of the crate that it was made from.
-archive=$root/target/staticlib/libjougsilver.a
+# The archive of the exported calls, under the name that a host links. rt makes it anew at each call, so it is kept with the sum of what it
+# was made from, taken before and after: an edit meanwhile makes it be built again.
+archive=$root/target/libjougsilver.a
 build_archive() {
-    prove jougsilver || return
-    made_of "$archive" "$(cat -- "$root/target/stamp/jougsilver")" || run_rt jougsilver staticlib jougsilver || return
-    note_made "$archive" "$(cat -- "$root/target/stamp/jougsilver")"
+    local from
+    need rt && from=$(sources) || return
+    ! made_of "$archive" "$from" || return 0
+    run_rt jougsilver_c lib || return
+    cp -- "$root/crates/jougsilver_c/out/libjougsilver_c.a" "$archive" || {
+        tell "$archive can't be written"
+        return 1
+    }
+    [ "$(sources)" != "$from" ] || note_made "$archive" "$from"
+}
+# A sum of all that a proof here reads: the kit, and the crates without what rt made.
+sources() {
+    local kit
+    kit=$(rt version) || {
+        tell "rt doesn't say its version"
+        return 1
+    }
+    (cd -- "$root" && echo "$kit" && find crates.txt crates -name out -prune -o -type f -exec sha256sum {} + | LC_ALL=C sort) | sha256sum
 }
 
 build_panel() {

@@ -2,7 +2,6 @@
 # once everything is built. Where a program or rt has to misbehave, a copy of the commands runs on one that does.
 front=$work/front
 mkdir -p "$front"
-chmod 711 "$work" # rt runs a program that it has built as nobody where it is root, and below TMPDIR
 samples=$PWD/examples/sheets
 top=$PWD
 
@@ -188,14 +187,15 @@ printf '%s\n' 'printf "refused 1 0\n"' >"$STUB/program"
 check "--picture of a refused sheet prints nothing" meets 2 - 'refused 1 (' pictured 0 --picture none.sheet 7
 
 # ---- readiness: the commands over an rt that does what the test says. The program that stands there is one that was built before.
-mkdir -p "$front/repo/target/bin" "$front/repo/target/stamp" "$front/bin"
+built=crates/listing/out/listing
+mkdir -p "$front/repo/${built%/*}" "$front/bin"
 cp -R jougsilver sheet scripts crates.txt "$front/repo"
 real_rt=$(command -v rt)
 cat >"$front/bin/rt" <<END
 #!/bin/bash
 # Stands in for rt: notes that it was called, and does what the file 'does' says.
 [ "\$1" != doc ] || exec '$real_rt' doc
-echo "began \$*" >>'$front/calls'
+echo "began \$* in \${PWD##*/}" >>'$front/calls'
 . '$front/does'
 status=\$?
 echo "ended" >>'$front/calls'
@@ -206,26 +206,25 @@ over_rt() { # SCRIPT: what rt does; then a run, whose status is this one's
     printf '%s\n' "$1" >"$front/does"
     PATH=$front/bin:$PATH "$front/repo/jougsilver" "$samples/five.sheet"
 }
-fresh_repo() { cp target/bin/listing "$front/repo/target/bin/listing" && : >"$front/calls"; }
-unchanged='echo "rt: budget proved (unchanged since it was last proved)"'
+fresh_repo() { cp "$built" "$front/repo/$built" && : >"$front/calls"; }
+unchanged='echo "rt: nothing has changed since the last proved build, by out/listing.stamp, so nothing is checked now"'
 fresh_repo
 check "rt checks before a run, and is quiet with nothing to do" meets 1 "$front/five.listing" '' over_rt "$unchanged"
 check "rt checks before the next run too" meets 1 "$front/five.listing" '' over_rt "$unchanged"
-called() { [ "$(grep -c "^began check listing$" "$front/calls")" -eq "$1" ]; }
+called() { [ "$(grep -c "^began run in listing$" "$front/calls")" -eq "$1" ]; }
 check "one check a run" called 2
-fails='echo "rt: judge NOT PROVED (exit 1, 3 s)"; false'
+fails='echo "rt: the library judge did not build, so nothing above it was checked"; false'
 check "a program whose check fails is not run" meets 3 - '^jougsilver: judge NOT PROVED' over_rt "$fails"
 check "nor is it the second time" meets 3 - "The end of $front/repo/target/ready-listing.log" over_rt "$fails"
-check "the log's end is shown" grep -q '^rt: judge NOT PROVED (exit 1, 3 s)$' "$front/err"
-check "each crate that is proved has its line" meets 1 "$front/five.listing" '^jougsilver: budget proved (30 s)$' \
-    over_rt 'echo "fn budget::supply: proved"; echo "rt: budget proved (30 s)"'
+check "the log's end is shown" grep -q '^rt: the library judge did not build, so nothing above it was checked$' "$front/err"
+check "each crate that is proved has its line" meets 1 "$front/five.listing" '^jougsilver: budget proved ([0-9]* s)$' \
+    over_rt 'echo "fn budget::supply: proved"; echo "crate budget: modules loaded=3 checked=2"; echo "logic=proved functions=1"'
 check "a long check says what it does and where its log is" meets 1 "$front/five.listing" "proving and building listing.*$front/repo/target/ready-listing.log" over_rt 'sleep 4'
-builds="cp '$PWD/target/bin/listing' target/bin/listing"
-cp target/bin/exercise "$front/repo/target/bin/listing"
+builds="cp '$PWD/$built' out/listing"
+cp crates/exercise/out/exercise "$front/repo/$built"
 check "what rt has just built is what runs" meets 1 "$front/five.listing" '' over_rt "$builds"
-rm "$front/repo/target/bin/listing"
-: >"$front/repo/target/stamp/listing"
-check "a program that was removed is built again" meets 1 "$front/five.listing" '' over_rt "[ -f target/stamp/listing ] || $builds"
+rm "$front/repo/$built"
+check "a program that was removed is built again" meets 1 "$front/five.listing" '' over_rt "[ -f out/listing ] || $builds"
 called_at_last() { # within 10 s
     local tries=0
     until [ -s "$front/calls" ] || [ $((tries += 1)) -gt 100 ]; do sleep 0.1; done
@@ -257,10 +256,16 @@ check "a lock goes with those who held it" orphaned
 # The real rt, on a copy whose listing program has changed: what doesn't compile is not run though the old program stands there, and a
 # change that is proved is met.
 real=$front/real
-mkdir -p "$real/target/log"
-cp -R jougsilver scripts crates crates.txt "$real"
-cp -R target/stamp target/bin "$real/target"
-ln -s "$PWD/target/rlib" "$real/target/rlib"
+copy_built() {
+    local crate part
+    ready listing && mkdir "$real" && cp -R jougsilver scripts crates.txt "$real" || return
+    for crate in crates/*; do
+        mkdir -p "$real/$crate/out" || return
+        for part in src specs proofs out/rlib; do [ ! -d "$crate/$part" ] || cp -R "$crate/$part" "$real/$crate/$part" || return; done
+    done
+    cp -p "$built" "$built.stamp" "$real/${built%/*}"
+}
+check "the built listing and its crates can be copied" copy_built
 check "an unchanged copy is not proved again" meets 1 "$front/five.listing" '' "$real/jougsilver" five.sheet
 cp crates/listing/src/main.rt "$front/main.rt"
 echo ')' >>"$real/crates/listing/src/main.rt"
@@ -280,7 +285,7 @@ few() { PATH=$front/few "$@"; }
 check "without rt jougsilver says so" meets 3 - '^jougsilver: the Rattle kit.s command rt is not on the PATH$' few "$top/jougsilver" five.sheet
 check "without cargo sheet says so" meets 3 - '^sheet: cargo is missing' few "$top/sheet" five.txt
 ln -s "$real_rt" "$front/few/rt"
-for tool in awk sed sort find date cmp nproc tr env id grep ls; do ln -s "$(command -v "$tool")" "$front/few/$tool"; done
+for tool in awk sed sort find date cmp nproc tr env id grep ls python3; do ln -s "$(command -v "$tool")" "$front/few/$tool"; done
 rm -f target/panel.from
 check "without a compiler host says so" meets 3 - '^host: .*gcc is missing' few "$top/scripts/host" five.sheet
 check "nothing was installed" [ ! -e "$front/installed" ]

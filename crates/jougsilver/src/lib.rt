@@ -1,4 +1,4 @@
-// The calls of the host, a C program: include/jougsilver.h is their other side. C sees each slice as two arguments, where it begins and how many bytes it has.
+// The calls of the host: `jougsilver_c` exports them to C, and include/jougsilver.h is their other side.
 #![tactic(auto)]
 
 mod all;
@@ -18,8 +18,7 @@ use transfer::reply::write_checked;
 use tree::place::{Placed, judge_place};
 
 // Judges the component at a place of a sheet, in its tree, and puts the reply into the host's buffer from a place on.
-#[unsafe(no_mangle)]
-pub extern "C" fn jougsilver_judge(sheet: &[u8], place: usize, reply: &mut [u8], at: usize) -> u32
+pub fn jougsilver_judge(sheet: &[u8], place: usize, reply: &mut [u8], at: usize) -> u32
     ensures answer { result ≡ host_refusal sheet.now place (length reply.old) at }
     ensures bytes { reply.new ≡ buffered (host_refusal sheet.now place (length reply.old) at) reply.old at (host_reply sheet.now place) }
 {
@@ -32,8 +31,7 @@ pub extern "C" fn jougsilver_judge(sheet: &[u8], place: usize, reply: &mut [u8],
 
 // Checks a whole sheet and puts what it was answered into the host's buffer from a place on. That a sheet is refused is the answer here, so only the
 // room can be refused.
-#[unsafe(no_mangle)]
-pub extern "C" fn jougsilver_check(sheet: &[u8], reply: &mut [u8], at: usize) -> u32
+pub fn jougsilver_check(sheet: &[u8], reply: &mut [u8], at: usize) -> u32
     ensures answer { result ≡ check_refusal (length reply.old) at }
     ensures bytes { reply.new ≡ buffered (check_refusal (length reply.old) at) reply.old at (check_reply sheet.now) }
 {
@@ -43,8 +41,7 @@ pub extern "C" fn jougsilver_check(sheet: &[u8], reply: &mut [u8], at: usize) ->
 }
 
 // Judges every component of a sheet in one pass, each after its children, and puts all replies into the host's buffer from a place on.
-#[unsafe(no_mangle)]
-pub extern "C" fn jougsilver_judge_all(sheet: &[u8], reply: &mut [u8], at: usize) -> u32
+pub fn jougsilver_judge_all(sheet: &[u8], reply: &mut [u8], at: usize) -> u32
     ensures answer { result ≡ all_refusal sheet.now (length reply.old) at }
     ensures bytes { reply.new ≡ buffered (all_refusal sheet.now (length reply.old) at) reply.old at (all_reply sheet.now) }
 {
