@@ -18,9 +18,7 @@ use Rattle.budget.specs.Task.{tasks_of}
 use Rattle.judge.specs.declared.answer.Answer.{Answer}
 use Rattle.judge.specs.declared.answer.Judged.TheVariants as Judged
 use Rattle.judge.specs.declared.answer.Margined.{Margined}
-use Rattle.judge.specs.declared.answer.Margined.TheVariants as Margined
 use Rattle.judge.specs.declared.answer.Verdict.{Verdict}
-use Rattle.judge.specs.declared.answer.Verdict.TheVariants as Verdict
 use Rattle.judge.specs.declared.margin.Tight.{Tight}
 use Rattle.judge.specs.Answer.{answer_at, judge_answer}
 use Rattle.judge.specs.Capacity.{smallest_capacity, capacity_of}

@@ -1,6 +1,6 @@
 -- The smallest capacity: a larger one supplies no less, so one walk over the instants raises it to what each asks for.
 use Prim.Native.Nat.{ℕ, suc, ◌+◌, ◌≤◌, ◌<◌, suc-le-suc}
-use mathlib.Core.Path.{◌≡◌, refl, sym, ◌∙◌, ap, subst}
+use mathlib.Core.Path.{◌≡◌, refl, sym, ◌∙◌, ap}
 use mathlib.Core.Bool.{Bool, true, false}
 use mathlib.Core.List.{List}
 use native.Mathlib.Decide.{dec_le}
@@ -63,19 +63,6 @@ module _ (p d a : ℕ) (v : valid_interface (interface p a d) ≡ true) where
           within = w.within;
           short = λ q f g. lt_of_le_of_lt (supply_grows q middle at (omega arith) (omega (arith, w.within))) s;
           fits = w.fits;
-        }
-
-    pub halving_down : (low high middle : ℕ) → Halving p d from at asked low high → low ≤ middle → middle < high → asked ≤ supply (interface p middle d) at → Halving p d from at asked low middle
-    halving_down low high middle w l h s = record { above = w.above; order = l; within = omega (arith, w.within); short = w.short; fits = λ g. s }
-
-    pub halved : (low high : ℕ) → Halving p d from at asked low high → high ≤ low → Raised p d from at asked low
-    halved low high w h =
-        let e : high ≡ low = omega (arith, w.order) in
-        record {
-          up = w.above;
-          within = omega (arith, w.within);
-          short = w.short;
-          fits = subst (λ (x : ℕ). x ≤ d → asked ≤ supply (interface p x d) at) e w.fits;
         }
 
 -- a short instant up to n is not accepted

@@ -5,7 +5,6 @@ pub mod MarginLaws
 pub mod MarginRight
 pub mod SameAnswers
 pub mod SearchLaws
-pub mod SignedLaws
 pub mod StepLaws
 pub mod StepLoops
 pub mod VerdictLaws

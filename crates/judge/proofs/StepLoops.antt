@@ -1,4 +1,4 @@
--- What one turn of the loops over the tasks keeps: a column filled one place further, and one more task past an instant.
+-- What one turn of the loop over the tasks keeps: one more task past an instant.
 use Prim.Native.Nat.{ℕ, suc, ◌+◌, ◌≤◌, ◌<◌, min}
 use mathlib.Core.Path.{◌≡◌, refl, sym, ◌∙◌, ap, ap₂, subst}
 use mathlib.Core.Logic.{◌⊎◌, inl, inr, ⊎_elim, ◌≢◌}
@@ -13,24 +13,8 @@ use native.Mathlib.Decide.{dec_le}
 use native.Mathlib.Nat.{ne_of_lt, lt_irrefl, add_assoc, add-zero}
 use native.Mathlib.Numerals.{add-one}
 use native.Mathlib.Omega.{arith}
-use Rattle.budget.specs.declared.task.Task.{Task}
-use Rattle.budget.specs.Limits.{limit, most_tasks}
-use Rattle.budget.specs.Task.{no_task}
-use Rattle.judge.specs.inner.Steps.{Column, Passed, Next, passed, due_work}
-
--- an empty column, and one place more
-pub column_none : (of : Task → ℕ) (ks : List Task) (xs : List ℕ) → length xs ≡ most_tasks → Column of ks 0 xs
-column_none of ks xs e = record { long = e; holds = below_none (λ j. get_or xs j 0 ≡ of (get_or ks j no_task)) }
-
-pub column_more : (of : Task → ℕ) (ks : List Task) (n : ℕ) (xs : List ℕ) → n < most_tasks → Column of ks n xs → Column of ks (n + 1) (set xs n (of (get_or ks n no_task)))
-column_more of ks n xs h c =
-    record {
-      long = length-set xs n (of (get_or ks n no_task)) ∙ c.long;
-      holds =
-          below_more (λ j. get_or (set xs n (of (get_or ks n no_task))) j 0 ≡ of (get_or ks j no_task)) n
-          (λ j l. get_or-set_other xs n j _ 0 (ne_of_lt l) ∙ c.holds j l)
-          (get_or-set_same xs n _ 0 (subst (λ (m : ℕ). n < m) (sym c.long) h));
-    }
+use Rattle.budget.specs.Limits.{limit}
+use Rattle.judge.specs.inner.Steps.{Passed, Next, passed, due_work}
 
 -- before the first task
 pub passed_none : (period work before : List ℕ) (at asked : ℕ) → Passed period work before before 0 at asked asked (suc limit)

@@ -4,9 +4,7 @@ use Rattle.std.proofs.Math.IntN.{sub_ℕ}
 use Rattle.budget.specs.declared.interface.Interface.{Interface}
 use Rattle.budget.specs.Supply.{supply}
 use Rattle.judge.specs.declared.answer.Margined.{Margined}
-use Rattle.judge.specs.declared.answer.Margined.TheVariants as Margined
 use Rattle.judge.specs.declared.answer.Verdict.{Verdict}
-use Rattle.judge.specs.declared.answer.Verdict.TheVariants as Verdict
 use Rattle.judge.specs.declared.margin.Tight.{Tight}
 
 -- the first short instant, once an instant with these units and this demand has been tried

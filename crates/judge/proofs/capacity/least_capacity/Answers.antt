@@ -1,6 +1,6 @@
 -- `judge::capacity::least_capacity` meets its contract. The loop's invariant: the next deadlines and the demand are those of the instant before `at`, the
 -- capacity fits at every instant before `at`, and every smaller one is short. The measure is what is left of the instants.
-use Prim.Native.Nat.{◌-◌, ◌≤◌}
+use Prim.Native.Nat.{ℕ, ◌≤◌}
 use mathlib.Core.Path.{sym}
 use native.Mathlib.Omega.{arith}
 use Rattle.budget.specs.Demand.{demand}
@@ -11,14 +11,7 @@ use Rattle.judge.proofs.CapacityLaws.{found_start, found_end, found_none, found_
 use Rattle.judge.proofs.StepLaws.{Moved, carried_start, carried_steppable, carried_moved, carried_next}
 use Rattle.judge.specs.inner.Raise.{Raised}
 use Rattle.judge.proofs.capacity.least_capacity.Goals as goal
-use Rattle.judge.proofs.capacity.least_capacity.Goals.{After-pass-step, After-raised-capacity, Else-length-at, Start}
-
--- where the turn and the function began
-abbrev turn : After-pass-step → Else-length-at
-turn a = a.before.before.before.before
-
-abbrev start : After-pass-step → Start
-start a = a.before.before.before.before.before.before.before.before.before.before
+use Rattle.judge.proofs.capacity.least_capacity.Goals.{After-pass-step}
 
 in_limit : (a : After-pass-step) → a.instants.at ≤ limit
 in_limit a = omega (arith, a.if-length-at.false, a.requires.bounded)
@@ -29,10 +22,9 @@ on : (a : After-pass-step)
 on a = carried_moved _ a.requires.few a.requires.tasks _ _ _ _ _ (in_limit a) a.instants.invariant.0 _ _ _ a.pass-step.ensures
 
 -- the capacity raised in this turn is raised for the demand at this instant
-for_demand : (r : After-raised-capacity)
-    → Raised (start r.before).args.period.0 (start r.before).args.deadline.0 (turn r.before).before.instants.capacity (turn r.before).before.instants.at
-    (demand (tasks_of (start r.before).args.table) (turn r.before).before.instants.at) r.raised-capacity.result
-for_demand r = rw (← (on r.before).known) r.raised-capacity.ensures
+for_demand : (a : After-pass-step) (r : ℕ) → Raised a.args.period.0 a.args.deadline.0 a.instants.capacity a.instants.at a.pass-step.result.demand r
+    → Raised a.args.period.0 a.args.deadline.0 a.instants.capacity a.instants.at (demand (tasks_of a.args.table) a.instants.at) r
+for_demand a r w = rw (← (on a).known) w
 
 pub instants-init : goal.instants-init
 instants-init c =
@@ -51,14 +43,14 @@ raised-capacity-requires c =
     record { interface = capacity_valid _ _ _ c.requires.interface _ c.instants.invariant.1.within; bounded = in_limit c }
 
 pub instants-smaller : goal.instants-smaller
-instants-smaller c = omega (arith, (turn (goal.at.instants-smaller c).After-pass-step).if1.left, (on (goal.at.instants-smaller c).After-pass-step).later)
+instants-smaller c = omega (arith, c.if-length-at.false, (on (goal.at.instants-smaller c).After-pass-step).later)
 
 pub instants-preserved : goal.instants-preserved
 instants-preserved c =
-    (
-      carried_next _ c.requires.few c.requires.tasks _ _ _ _ _ (in_limit (goal.at.instants-preserved c).After-pass-step) c.instants.invariant.0 _ _ _ c.pass-step.ensures,
+    let a = (goal.at.instants-preserved c).After-pass-step in (
+      carried_next _ c.requires.few c.requires.tasks _ _ _ _ _ (in_limit a) c.instants.invariant.0 _ _ _ c.pass-step.ensures,
       found_on _ _ _ _ _ c.requires.interface _ _ _ c.instants.invariant.1 (omega (arith, c.instants.invariant.0.ready.is)) c.if-length-at.false
-          (for_demand (goal.at.instants-preserved c).After-raised-capacity) c.if-last-capacity.false _ (on (goal.at.instants-preserved c).After-pass-step).still,
+          (for_demand a _ c.raised-capacity.ensures) c.if-last-capacity.false _ (on a).still,
     )
 
 pub returns-then-length-at : goal.returns-then-length-at
@@ -68,4 +60,4 @@ pub returns-then-last-capacity : goal.returns-then-last-capacity
 returns-then-last-capacity c =
     sym
     (found_none _ _ _ _ _ c.requires.interface _ _ _ c.instants.invariant.1 (omega (arith, c.instants.invariant.0.ready.is)) c.if-length-at.false
-    (for_demand (goal.at.returns-then-last-capacity c).After-raised-capacity) c.if-last-capacity.true)
+    (for_demand (goal.at.returns-then-last-capacity c).After-pass-step _ c.raised-capacity.ensures) c.if-last-capacity.true)

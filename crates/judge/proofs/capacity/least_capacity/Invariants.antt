@@ -1,7 +1,6 @@
 -- `judge::capacity::least_capacity` meets its contract. The loop's invariant: the next deadlines and the demand are those of the instant before `at`, the
 -- capacity fits at every instant before `at`, and every smaller one is short. The measure is what is left of the instants.
 use Prim.Native.Nat.{◌-◌, ◌+◌}
-use Rattle.budget.specs.Demand.{demand}
 use Rattle.budget.specs.Task.{tasks_of}
 use Rattle.judge.proofs.CapacityLaws.{Found}
 use Rattle.judge.proofs.StepLaws.{Carried}

@@ -5,4 +5,4 @@ use Rattle.budget.proofs.Answers.{supply_given}
 use Rattle.judge.proofs.capacity.units_at.Goals as goal
 
 pub returns : goal.returns
-returns c = ap (λ (a : Amount). a.units.0) (c.supply_given.ensures ∙ supply_given _ _ c.requires.interface c.requires.bounded)
+returns c = ap (λ (a : Amount). a.units.0) (c.supply-given.ensures ∙ supply_given _ _ c.requires.interface c.requires.bounded)

@@ -8,11 +8,15 @@ use Rattle.judge.proofs.judging.at_smallest.Goals as goal
 pub returns-then-last-found : goal.returns-then-last-found
 returns-then-last-found c = none_answer _ _ (capacity_is _ _ _ c.requires.length_len c.least_capacity-found.ensures) c.if-last-found.true
 
-pub at_capacity-requires : goal.at_capacity-requires
-at_capacity-requires c =
-    let pre = c.requires in
-    let s = pre.1 in
-    record { length_len = pre.0; scannable = record { few = s.few; tasks = s.tasks; interface = capacity_valid _ _ _ s.interface _ (omega (arith, c.if-last-found.false)); bounded = s.bounded } }
+pub at_capacity-requires-clause-scannable : goal.at_capacity-requires-clause-scannable
+at_capacity-requires-clause-scannable c =
+    let s = c.requires.scannable in
+    record {
+      few = s.few;
+      tasks = s.tasks;
+      interface = capacity_valid _ _ _ s.interface _ (omega (arith, c.if-last-found.false));
+      bounded = s.bounded;
+    }
 
 pub returns : goal.returns
 returns c =

@@ -1,7 +1,6 @@
 -- `judge::judging::judge_over` meets its contract: the refusal of the common period asked for, or the answer at the capacity stated or asked.
 use mathlib.Core.Path.{◌∙◌}
 use native.Mathlib.Omega.{arith}
-use borrow.Author.Rules.{rules}
 use Rattle.judge.proofs.AnswerLaws.{refused_answer, given_answer}
 use Rattle.judge.proofs.Whole.{refused, length_is, scannable, stated_fits}
 use Rattle.judge.proofs.judging.judge_over.Goals as goal
@@ -13,9 +12,6 @@ pub at_capacity-requires : goal.at_capacity-requires
 at_capacity-requires c =
     let e = c.if-refused-ne-NONE.false in
     record { length_len = length_is _ c.args.whole c.requires e; scannable = scannable _ c.args.whole c.requires e _ (stated_fits _ (refused _ _ c.requires ∙ e) _ c.in-Stated.is) }
-
-pub enum_told-1 : goal.enum_told-1
-enum_told-1 c = search rules
 
 pub at_smallest-requires : goal.at_smallest-requires
 at_smallest-requires c =

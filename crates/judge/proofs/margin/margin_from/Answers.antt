@@ -13,9 +13,6 @@ pub returns-then-at-eq0 : goal.returns-then-at-eq0
 unfolding margin_from
 returns-then-at-eq0 c = sym (simp (eq-eqb c.args.best.at 0 c.if-at-eq0.true))
 
-pub difference-requires : goal.difference-requires
-difference-requires c = let small = c.requires in record { units_le_limit = small.units; demand_bound = small.demand }
-
 pub returns : goal.returns
 unfolding margin_from
 returns c =

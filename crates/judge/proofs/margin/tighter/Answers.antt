@@ -1,7 +1,6 @@
 -- `judge::margin::tighter` meets its contract: each return by the tests that led there.
 use Prim.Native.Nat.{◌+◌, ◌≤◌, ◌<◌}
 use mathlib.Core.Path.{◌≡◌}
-use native.Mathlib.Omega.{arith}
 use borrow.Author.Tests.{lt-ltb, le-ltb, eq-eqb, ne_eqb}
 use Rattle.judge.specs.declared.margin.Tight.{Tight}
 use Rattle.judge.specs.inner.Tried.{tighter_of}
@@ -22,12 +21,6 @@ module _ (best here : Tight) where
 
 pub returns-then-best-eq0 : goal.returns-then-best-eq0
 returns-then-best-eq0 c = first _ _ c.if-best-eq0.true
-
-pub overflow_add-here : goal.overflow_add-here
-overflow_add-here c = let pre = c.requires in omega (arith, pre.0, pre.1)
-
-pub overflow_add-best : goal.overflow_add-best
-overflow_add-best c = let pre = c.requires in omega (arith, pre.0, pre.1)
 
 pub returns-then-here-best : goal.returns-then-here-best
 returns-then-here-best c = later _ _ c.if-best-eq0.false c.if-here-best.true

@@ -1,6 +1,6 @@
 -- `judge::scan::scan` meets its contract. The loop's invariant: the next deadlines and the demand are those of the instant before `at`, and what is found is the
 -- first short instant and the tightest step instant before `at`. The measure is what is left of the instants.
-use Prim.Native.Nat.{◌-◌, ◌≤◌}
+use Prim.Native.Nat.{◌≤◌}
 use native.Mathlib.Omega.{arith}
 use lib.ListN.{length}
 use Rattle.budget.specs.Limits.{limit, most_tasks}
@@ -11,14 +11,7 @@ use Rattle.judge.proofs.MarginLaws.{best_start, best_next, best_small, demand_sm
 use Rattle.judge.proofs.StepLaws.{Moved, carried_start, carried_steppable, carried_moved, carried_next}
 use Rattle.judge.proofs.VerdictLaws.{sought_start, sought_next, sought_end}
 use Rattle.judge.proofs.scan.scan.Goals as goal
-use Rattle.judge.proofs.scan.scan.Goals.{After-pass-step, In-loop-at, Start}
-
--- where the turn and the function began
-abbrev turn : After-pass-step → In-loop-at
-turn a = a.before.before.before.before
-
-abbrev start : After-pass-step → Start
-start a = a.before.before.before.before.before.before.before.before.before.before
+use Rattle.judge.proofs.scan.scan.Goals.{After-pass-step}
 
 in_limit : (a : After-pass-step) → a.loop-at.at ≤ limit
 in_limit a = omega (arith, a.loop-at-test.true, a.requires.bounded)
@@ -30,9 +23,6 @@ few a = omega (arith, a.loop-at.invariant.0.count, a.requires.few)
 on : (a : After-pass-step)
     → Moved (tasks_of a.args.table) a.pass-step.new.due a.loop-at.at a.pass-step.result.demand a.pass-step.result.next
 on a = carried_moved _ a.requires.few a.requires.tasks _ _ _ _ _ (in_limit a) a.loop-at.invariant.0 _ _ _ a.pass-step.ensures
-
-pub overflow_add-found : goal.overflow_add-found
-overflow_add-found c = omega (arith, c.requires.bounded)
 
 pub loop-at-init : goal.loop-at-init
 loop-at-init c =
@@ -58,15 +48,17 @@ try_instant-found-requires c =
     }
 
 pub loop-at-smaller : goal.loop-at-smaller
-loop-at-smaller c = omega (arith, (turn (goal.at.loop-at-smaller c).After-pass-step).loop-test.taken, (on (goal.at.loop-at-smaller c).After-pass-step).later)
+loop-at-smaller c = omega (arith, c.loop-at-test.true, (on (goal.at.loop-at-smaller c).After-pass-step).later)
 
 pub loop-at-preserved : goal.loop-at-preserved
 loop-at-preserved c =
-    let k = c.loop-at.invariant.0 in (
-      carried_next _ c.requires.few c.requires.tasks _ _ _ _ _ (in_limit (goal.at.loop-at-preserved c).After-pass-step) k _ _ _ c.pass-step.ensures,
-      sought_next _ _ c.requires.tasks (valid_interface_lem _ c.requires.interface) _ _ _ _ _ _ _ _ k.ready.is k.ready.known (on (goal.at.loop-at-preserved c).After-pass-step).known c.loop-at-test.true
-          (on (goal.at.loop-at-preserved c).After-pass-step).later (on (goal.at.loop-at-preserved c).After-pass-step).still c.try_instant-found.ensures.short c.loop-at.invariant.1,
-      best_next _ _ _ _ _ _ _ _ _ _ k.ready.is k.ready.known (on (goal.at.loop-at-preserved c).After-pass-step).known c.loop-at-test.true (on (goal.at.loop-at-preserved c).After-pass-step).later c.loop-at.invariant.2 (on (goal.at.loop-at-preserved c).After-pass-step).still
+    let a = (goal.at.loop-at-preserved c).After-pass-step in
+    let k = c.loop-at.invariant.0 in
+    let m = on a in (
+      carried_next _ c.requires.few c.requires.tasks _ _ _ _ _ (in_limit a) k _ _ _ c.pass-step.ensures,
+      sought_next _ _ c.requires.tasks (valid_interface_lem _ c.requires.interface) _ _ _ _ _ _ _ _ k.ready.is k.ready.known m.known c.loop-at-test.true
+          m.later m.still c.try_instant-found.ensures.short c.loop-at.invariant.1,
+      best_next _ _ _ _ _ _ _ _ _ _ k.ready.is k.ready.known m.known c.loop-at-test.true m.later c.loop-at.invariant.2 m.still
           c.try_instant-found.ensures.tight,
     )
 

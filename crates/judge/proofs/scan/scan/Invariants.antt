@@ -1,7 +1,6 @@
 -- `judge::scan::scan` meets its contract. The loop's invariant: the next deadlines and the demand are those of the instant before `at`, and what is found is the
 -- first short instant and the tightest step instant before `at`. The measure is what is left of the instants.
 use Prim.Native.Nat.{◌-◌, ◌+◌}
-use lib.ListN.{length}
 use Rattle.budget.specs.Task.{tasks_of}
 use Rattle.judge.proofs.MarginLaws.{Best}
 use Rattle.judge.proofs.StepLaws.{Carried}

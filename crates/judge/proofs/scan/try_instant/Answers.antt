@@ -41,17 +41,23 @@ returns-then-demand-before c =
     let still : c.args.demand ≤ c.args.before = omega (arith, c.if-demand-before.true) in
     record { short = still_short _ found.tight _ _ _ _ still; tight = still_tight found.short _ _ _ _ _ still }
 
-given : (c : After-supply-given) → c.supply_given.result.units.0 ≡ supply c.args.interface c.args.at
-given c = ap (λ (a : Amount). a.units.0) (c.supply_given.ensures ∙ supply_given _ _ c.requires.interface c.requires.bounded)
+given : (c : After-supply-given) → c.supply-given.result.units.0 ≡ supply c.args.interface c.args.at
+given c = ap (λ (a : Amount). a.units.0) (c.supply-given.ensures ∙ supply_given _ _ c.requires.interface c.requires.bounded)
 
-pub tighter-requires : goal.tighter-requires
-tighter-requires c =
-    record { small = c.requires.best_fits; small_2 = record {
-        units = le_trans (le_of_eq (given (goal.at.tighter-requires c).After-supply-given)) (le_trans (supply_le_time _ (valid_interface_lem _ c.requires.interface) c.args.at) c.requires.bounded);
-        demand = c.requires.asked_fits;
-      } }
+pub tighter-requires-clause-small_2 : goal.tighter-requires-clause-small_2
+tighter-requires-clause-small_2 c =
+    let is = given (goal.at.tighter-requires-clause-small_2 c).After-supply-given in
+    record {
+      units = le_trans (le_of_eq is) (le_trans (supply_le_time _ (valid_interface_lem _ c.requires.interface) c.args.at) c.requires.bounded);
+      demand = c.requires.asked_fits;
+    }
 
 pub returns : goal.returns
 returns c =
     let found = c.args.found in
-    let step = c.if-demand-before.false in record { short = c.sooner_short.ensures ∙ step_short _ found.tight _ _ _ _ _ (given (goal.at.returns c).After-supply-given) step; tight = c.tighter.ensures ∙ step_tight found.short _ _ _ _ _ _ (given (goal.at.returns c).After-supply-given) step }
+    let is = given (goal.at.returns c).After-supply-given in
+    let step = c.if-demand-before.false in
+    record {
+      short = c.sooner_short.ensures ∙ step_short _ found.tight _ _ _ _ _ is step;
+      tight = c.tighter.ensures ∙ step_tight found.short _ _ _ _ _ _ is step;
+    }
