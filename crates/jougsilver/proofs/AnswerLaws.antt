@@ -14,7 +14,6 @@ use Rattle.record.proofs.Cases.{cases}
 use Rattle.transfer.specs.Reading.{reading}
 use Rattle.tree.specs.declared.answer.Outcome.{Outcome}
 use Rattle.tree.specs.declared.place.Placed.{Placed}
-use Rattle.tree.specs.declared.place.Placed.TheVariants as Placed
 use Rattle.tree.specs.Tree.{outcome_at, placing}
 
 -- a component that is refused is answered so

@@ -4,11 +4,8 @@ use Rattle.budget.specs.declared.quantity.Units.{Units}
 use Rattle.judge.specs.declared.answer.Answer.{Answer}
 use Rattle.judge.specs.declared.answer.Judged.TheVariants as Judged
 use Rattle.judge.specs.declared.answer.Margined.{Margined}
-use Rattle.judge.specs.declared.answer.Margined.TheVariants as Margined
 use Rattle.judge.specs.declared.answer.Verdict.{Verdict}
-use Rattle.judge.specs.declared.answer.Verdict.TheVariants as Verdict
 use Rattle.tree.specs.declared.answer.Outcome.{Outcome}
-use Rattle.tree.specs.declared.answer.Outcome.TheVariants as Outcome
 use Rattle.report.specs.Text.{decimal, signed_text, spaced}
 
 -- the fields behind a line's first, each behind a single space, and the newline

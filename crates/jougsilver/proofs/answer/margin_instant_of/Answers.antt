@@ -1,0 +1,15 @@
+-- Each arm is its clause of the definition.
+use borrow.Author.Rules.{rules}
+use Rattle.jougsilver.proofs.answer.margin_instant_of.Goals as goal
+
+pub enum_told-1 : goal.enum_told-1
+enum_told-1 c = search rules
+
+pub returns-in-Refused : goal.returns-in-Refused
+returns-in-Refused c = rw c.in-Refused.is
+
+pub returns-in-Least : goal.returns-in-Least
+returns-in-Least c = rw c.in-Least.is
+
+pub returns-in-None : goal.returns-in-None
+returns-in-None c = rw c.in-None.is
