@@ -22,7 +22,6 @@ use Rattle.sheet.specs.Check.{check}
 use Rattle.transfer.specs.Reading.{reading}
 use Rattle.tree.specs.declared.answer.Load.{Load}
 use Rattle.tree.specs.declared.answer.Outcome.{Outcome}
-use Rattle.tree.specs.declared.answer.Outcome.TheVariants as Outcome
 use Rattle.tree.specs.Offer.{offer_of}
 use Rattle.tree.specs.Outcome.{outcome_of}
 use Rattle.tree.specs.Tree.{load_at, outcome_at}

@@ -26,7 +26,6 @@ use Rattle.sheet.specs.Check.{check, pairs_of}
 use Rattle.transfer.specs.Pairing.{no_pair}
 use Rattle.transfer.specs.Reading.{reading}
 use Rattle.tree.specs.declared.answer.Outcome.{Outcome}
-use Rattle.tree.specs.declared.answer.Outcome.TheVariants as Outcome
 use Rattle.tree.specs.declared.offer.Offer.{Offer}
 use Rattle.tree.specs.Nested.{children_at}
 use Rattle.tree.specs.Offer.{is_offered, offer_in, offer_of, offered_on}

@@ -18,7 +18,6 @@ use Rattle.judge.specs.declared.answer.Verdict.TheVariants as Verdict
 use Rattle.record.specs.declared.layout.Pair.{Pair}
 use Rattle.record.proofs.Cases.{cases, either}
 use Rattle.tree.specs.declared.answer.Outcome.{Outcome}
-use Rattle.tree.specs.declared.answer.Outcome.TheVariants as Outcome
 use Rattle.tree.specs.declared.offer.Offer.{Offer}
 use Rattle.tree.specs.Offer.{offering, offered_on, offer_of, offer_in}
 use Rattle.tree.specs.Outcome.{outcome_of}

@@ -26,7 +26,6 @@ use Rattle.budget.proofs.Valid.{and_true, both, task_valid, valid_interface_lem}
 use Rattle.judge.specs.declared.answer.Judged.{Judged}
 use Rattle.judge.specs.declared.answer.Judged.TheVariants.{Refused, Answered}
 use Rattle.judge.specs.declared.answer.Verdict.{Verdict}
-use Rattle.judge.specs.declared.answer.Verdict.TheVariants as Verdict
 use Rattle.judge.specs.Capacity.{capacity_of}
 use Rattle.judge.specs.Judged.{judged_at, verdict_answer}
 use Rattle.record.specs.declared.layout.Pair.{Pair}
@@ -38,7 +37,6 @@ use Rattle.transfer.proofs.ReadsBack.{sound_at}
 use Rattle.transfer.proofs.Sheet.{accepted_sheet}
 use Rattle.tree.specs.declared.answer.Load.{Load}
 use Rattle.tree.specs.declared.answer.Outcome.{Outcome}
-use Rattle.tree.specs.declared.answer.Outcome.TheVariants as Outcome
 use Rattle.tree.specs.declared.offer.Offer.{Offer}
 use Rattle.tree.specs.Nested.{OnlyLong, children_at}
 use Rattle.tree.specs.Offer.{as_task, offered_on, offer_of, offer_in, withheld}

@@ -1,6 +1,6 @@
 -- What is answered at a place of a sheet, from its contents: the pairs behind its last edge are the sheet's, each component between its edges is the
 -- one that is read, and so the workload from what is below the place is the one from all offers.
-use Prim.Native.Nat.{ℕ, suc, ◌+◌, ◌-◌, ◌≤◌, ◌<◌}
+use Prim.Native.Nat.{ℕ, suc, ◌-◌, ◌≤◌, ◌<◌}
 use native.Mathlib.Omega.{arith}
 use mathlib.Core.Bool.{true}
 use mathlib.Core.List.{List, [], ◌∷◌, ◌++◌}

@@ -6,7 +6,6 @@ use Rattle.judge.specs.declared.answer.Judged.{Judged}
 use Rattle.judge.specs.declared.answer.Judged.TheVariants.{Refused, Answered}
 use Rattle.judge.specs.declared.answer.Verdict.TheVariants as Verdict
 use Rattle.tree.specs.declared.answer.Outcome.{Outcome}
-use Rattle.tree.specs.declared.answer.Outcome.TheVariants as Outcome
 use Rattle.tree.specs.declared.offer.Offer.{Offer}
 
 -- stands in place of a capacity where the component is not accepted; no capacity is so large

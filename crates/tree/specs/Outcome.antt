@@ -3,7 +3,6 @@ use Rattle.std.specs.Prelude.{cond}
 use Rattle.judge.specs.Answer.{judge_answer}
 use Rattle.tree.specs.declared.answer.Load.{Load}
 use Rattle.tree.specs.declared.answer.Outcome.{Outcome}
-use Rattle.tree.specs.declared.answer.Outcome.TheVariants as Outcome
 
 -- the judge as it stands, on the component with its workload; waiting comes before any refusal of it
 unfoldable pub outcome_of : Load → Outcome

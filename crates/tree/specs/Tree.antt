@@ -9,7 +9,6 @@ use Rattle.tree.specs.declared.answer.Outcome.{Outcome}
 use Rattle.tree.specs.declared.offer.Offer.{Offer}
 use Rattle.tree.specs.declared.place.Loaded.{Loaded}
 use Rattle.tree.specs.declared.place.Placed.{Placed}
-use Rattle.tree.specs.declared.place.Placed.TheVariants as Placed
 use Rattle.tree.specs.Offer.{offer_of}
 use Rattle.tree.specs.Outcome.{outcome_of}
 use Rattle.tree.specs.Workload.{load_on, ready}

@@ -3,7 +3,6 @@ use Rattle.std.specs.Prelude.{ℕ, zero, suc, Bool, false, cond, ◌||◌, List,
 use Rattle.budget.specs.declared.component.Component.{Component}
 use Rattle.record.specs.declared.layout.Pair.{Pair}
 use Rattle.tree.specs.declared.answer.Outcome.{Outcome}
-use Rattle.tree.specs.declared.answer.Outcome.TheVariants as Outcome
 use Rattle.tree.specs.declared.offer.Offer.{Offer}
 use Rattle.tree.specs.Offer.{offer_of}
 use Rattle.tree.specs.Outcome.{outcome_of}

@@ -1,5 +1,4 @@
 -- The loop's invariant: what stands from the place on decides.
-use Prim.Native.Nat.{◌-◌}
 use mathlib.Core.Path.{refl, sym, ◌∙◌}
 use borrow.Author.Tests.{eq-eqb, ne_eqb}
 use Rattle.tree.proofs.BelowLaws.{holds_at, holds_end}

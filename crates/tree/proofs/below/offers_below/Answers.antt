@@ -1,5 +1,4 @@
 -- The loop's invariant: the row holds the offers of the components before the place reached.
-use Prim.Native.Nat.{◌-◌}
 use native.Mathlib.Omega.{arith}
 use mathlib.Core.Path.{◌≡◌, refl, sym}
 use lib.ListN.{replicate}

@@ -1,9 +1,8 @@
 -- The loop's invariant: the row holds what the pairs from the place on make wanted, and has a place for each pair before.
-use Prim.Native.Nat.{◌-◌, ◌≤◌}
+use Prim.Native.Nat.{◌≤◌}
 use native.Mathlib.Omega.{arith}
 use mathlib.Core.Path.{◌≡◌, sym, ◌∙◌}
 use lib.ListN.{length, replicate}
-use lib.Seq.{length-take-le}
 use borrow.Author.Rules.{rules}
 use Rattle.tree.proofs.BelowLaws.{wanting_none, wanting_more, wanting_same}
 use Rattle.tree.proofs.below.wanted_below.Goals as goal

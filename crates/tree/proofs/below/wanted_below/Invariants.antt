@@ -1,5 +1,5 @@
 -- The loop's invariant: the row holds what the pairs from the place on make wanted, and has a place for each pair before.
-use Prim.Native.Nat.{◌+◌, ◌-◌, ◌≤◌}
+use Prim.Native.Nat.{◌+◌, ◌≤◌}
 use mathlib.Core.Path.{◌≡◌}
 use lib.ListN.{length, take}
 use Rattle.tree.specs.inner.Below.{wanted_of}

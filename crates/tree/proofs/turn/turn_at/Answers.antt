@@ -20,8 +20,11 @@ judge_next-outcome-requires c = subst Right (sym c.read_at-component.ensures) (r
 
 pub returns : goal.returns
 returns c =
-    let read = c.read_at-component.ensures in record { turned = (λ room. record {
+    let read = c.read_at-component.ensures in record {
+      turned = (λ room. record {
         number = ap (λ (x : Component). x.number) read;
         outcome = rw (← read) c.judge_next-outcome.ensures;
         row = c.note.ensures ∙ rw (c.offer_of-offer.ensures, read);
-      }); full = (λ full. absurd (omega arith)) }
+      });
+      full = (λ full. absurd (omega arith));
+    }

@@ -1,5 +1,5 @@
 -- The loop's invariant: what is gathered from the pairs before the place, with its common period, and those from the place on, make the whole workload.
-use Prim.Native.Nat.{ℕ, ◌+◌, ◌-◌}
+use Prim.Native.Nat.{ℕ, ◌+◌}
 use mathlib.Core.List.{List, [], ◌∷◌}
 use mathlib.Core.Path.{◌≡◌, sym, ◌∙◌}
 use lib.ListN.{length, get_or}
@@ -52,7 +52,7 @@ loop-i-preserved c =
     let s = (goal.at.loop-i-preserved c).Start in
     let t = (goal.at.loop-i-preserved c).Then-i-parents in
     elim c.if-parents-i.branch [
-      then-parents-i+else-offer w ↦ gathering_more (pairs s) (offers s) c.args.component _ _ (child t) (parent t) (here t) c.loop-i.table c.loop-i.common c.loop-i.invariant w.if-parents-i.true _ w.find_offer-offer.ensures w.if-offer.false _ (w.table-is ∙ w.with_child-table.ensures) _ (w.common-is ∙ w.grow_with-common.ensures)
+      | then-parents-i+else-offer w ↦ gathering_more (pairs s) (offers s) c.args.component _ _ (child t) (parent t) (here t) c.loop-i.table c.loop-i.common c.loop-i.invariant w.if-parents-i.true _ w.find_offer-offer.ensures w.if-offer.false _ (w.table-is ∙ w.with_child-table.ensures) _ (w.common-is ∙ w.grow_with-common.ensures)
       | else-parents-i w ↦ rw (w.table-is, w.common-is) (gathering_same (pairs s) (offers s) c.args.component _ _ (child t) (parent t) (here t) c.loop-i.table c.loop-i.common c.loop-i.invariant w.if-parents-i.false)
     ]
 
@@ -60,7 +60,7 @@ loop-i-preserved c =
 left : (c : Left-loop-i) → pairs_after c.args.children.now c.args.parents.now c.loop-i.i ≡ []
 left c =
     elim c.loop-i-test.branch [
-      then-loop-i-test+else-i-parents w ↦ parents_end c.args.children.now c.args.parents.now c.loop-i.i w.if-i-parents.false
+      | then-loop-i-test+else-i-parents w ↦ parents_end c.args.children.now c.args.parents.now c.loop-i.i w.if-i-parents.false
       | else-loop-i-test w ↦ children_end c.args.children.now c.args.parents.now c.loop-i.i w.loop-i-test.false
     ]
 

@@ -1,5 +1,4 @@
 -- The loop's invariant: the places from the count on and before `i` are cleared, and before the count the table's tasks stand.
-use Prim.Native.Nat.{◌-◌}
 use mathlib.Core.Path.{◌≡◌}
 use native.Mathlib.Omega.{arith}
 use lib.ListN.{length}
