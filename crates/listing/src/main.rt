@@ -2,7 +2,7 @@
 // written. A read or a write that fails is told on standard error, and is never printed as a listing.
 #![tactic(auto)]
 
-ghost use Rattle.std.specs.Prelude.{◌+◌, ◌≤◌, length};
+ghost use Rattle.std.specs.Prelude.{◌≡◌, ◌+◌, ◌≤◌, length, take};
 
 use report::listing::listing;
 use std::io::Read;
@@ -33,7 +33,7 @@ fn read_behind(input: &mut impl Read, row: &mut [u8], held: usize) -> Input
 
 // Reads until the row is full or the input ends.
 fn read_sheet(from: &mut impl Read, row: &mut [u8]) -> Input
-    ensures { result.count ≤ length row.new }
+    ensures { (result.count ≤ length row.new) × (result.count ≡ length (take result.count row.new)) }
 {
     let mut held = 0;
     while held < row.len() {
