@@ -9,6 +9,7 @@ use crate::refusal;
 use crate::task::{Table, Task, check_table, span};
 
 // The units of a task's jobs that fall due by `at`, where each is ready as late as it may be. Before the first deadline there are none.
+#[tactic(auto, unfolding(crate::specs::Demand::jobs_by))]
 fn units_of(task: Task, at: u32) -> u32
     requires { (valid_task task ≡ true) × (at ≤ limit) }
     ensures { result ≡ Demand.jobs_by task at * C task }

@@ -135,6 +135,7 @@ pub fn write_component(buffer: &mut [u8], at: usize, component: Component) -> Wr
 }
 
 // Writes the end record from a place on, and answers the place behind it.
+#[tactic(auto, unfolding(crate::specs::Writing::end_refusal, record::specs::Writing::written, record::specs::Writing::buffered))]
 pub fn write_end(buffer: &mut [u8], at: usize, count: usize) -> Written
     ensures answer { result ≡ written (end_refusal (length buffer.old) at count) at (end_bytes count) }
     ensures bytes { buffer.new ≡ buffered (end_refusal (length buffer.old) at count) buffer.old at (end_bytes count) }

@@ -1,9 +1,9 @@
 -- What one task asks for is computed as defined; it fits, as the work of its jobs is at most one period more than the instant.
-use Prim.Native.Nat.{ℕ, ◌+◌, ◌-◌, ◌*◌, ◌/◌, ◌≤◌, ◌<◌}
-use mathlib.Core.Path.{◌≡◌, sym}
-use native.Mathlib.Nat.{zero-mul, div-le_self}
+use Prim.Native.Nat.{ℕ, ◌+◌, ◌-◌, ◌*◌, ◌/◌, ◌≤◌}
+use mathlib.Core.Path.{◌≡◌}
+use native.Mathlib.Nat.{div-le_self}
 use native.Mathlib.Omega.{arith}
-use borrow.Author.Tests.{lt-leb, le-leb}
+use borrow.Author.Tests.{le-leb}
 use Rattle.budget.specs.declared.task.Task.{Task}
 use Rattle.budget.specs.Demand.{jobs_by}
 use Rattle.budget.specs.Task.{T, C, span}
@@ -12,22 +12,13 @@ use Rattle.budget.proofs.Valid.{ValidTask, valid_task_lem}
 use Rattle.budget.proofs.demand.units_of.Goals as goal
 use Rattle.budget.proofs.demand.units_of.Goals.{Else-at-first, Start}
 
--- before its first deadline a task asks for nothing, and from there on for one job more than whole periods have passed
-none_due : (k : Task) (t : ℕ) → t < span k → 0 ≡ jobs_by k t * C k
-unfolding jobs_by
-none_due k t h = rw (lt-leb _ _ h) (sym (zero-mul _))
-
+-- from its first deadline on a task asks for one job more than whole periods have passed
 some_due : (k : Task) (t : ℕ) → span k ≤ t → ((t - span k) / T k + 1) * C k ≡ jobs_by k t * C k
 unfolding jobs_by
 some_due k t h = rw (le-leb _ _ h)
 
 in_range : (s : Start) → ValidTask s.args.task
 in_range s = valid_task_lem s.args.task s.requires.0
-
-pub returns-then-at-first : goal.returns-then-at-first
-returns-then-at-first c =
-    let early : c.args.at < span c.args.task = omega (arith, c.span-first.ensures) in
-    none_due _ _ early
 
 pub nonzero_div-result : goal.nonzero_div-result
 nonzero_div-result c = omega (arith, in_range (goal.at.nonzero_div-result c).Start)
