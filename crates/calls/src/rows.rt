@@ -74,7 +74,7 @@ pub fn read_list(line: &[u8], start: usize, list: &mut [u32]) -> Row
     }
 }
 
-// Reads signed numbers likewise. `Counts` speaks of unsigned ones, so the same is written out for these.
+// Reads signed numbers likewise. `IsPrefixLen` speaks of unsigned ones, so the same is written out for these.
 pub fn read_signed_list(line: &[u8], start: usize, list: &mut [i32]) -> Row
     ensures { (result.length ≤ length list.new) × (result.length ≡ length (take result.length list.new)) }
 {
