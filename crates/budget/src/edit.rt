@@ -22,8 +22,8 @@ pub struct Edited {
 
 // The tasks of a table with those of `source` from place `first` up to `end` after them, and zero from there on.
 pub(crate) fn append_part(table: Table, source: Table, first: usize, end: usize) -> Table
-    requires table_value { table ≡ table_of (tasks_of table) }
-    requires end_le_most_tasks { (end ≤ most_tasks) × (first ≤ end) × (table.count + (end - first) ≤ most_tasks) }
+    requires returned { table ≡ table_of (tasks_of table) }
+    requires room { (end ≤ most_tasks) × (first ≤ end) × (table.count + (end - first) ≤ most_tasks) }
     ensures { result ≡ table_of (tasks_of table ++ drop first (take end source.tasks)) }
 {
     let tasks = source.tasks;
@@ -50,8 +50,8 @@ pub(crate) fn no_edit(number: u16) -> Edited
 
 // An edit that gives the component these tasks, with their common period.
 pub(crate) fn with_table(component: Component, common: Common, table: Table) -> Edited
-    requires table_value { table ≡ table_of (tasks_of table) }
-    requires common_value { common ≡ common_of component.period.0 (tasks_of table) }
+    requires returned { table ≡ table_of (tasks_of table) }
+    requires right { common ≡ common_of component.period.0 (tasks_of table) }
     ensures { result ≡ record { refusal = 0; component = with_tasks component (tasks_of table) } }
 {
     let number = component.number;

@@ -11,8 +11,8 @@ use crate::refusal;
 // The fewest units in `at` slots of an interface in range. Behind the wait the worst case goes period by period: a pause of Π − Θ slots, then
 // the capacity, a unit a slot. Whole periods and the rest, the slots of the period begun, come from one division.
 fn units_by(interface: Interface, at: u32) -> u32
-    requires interface_value { valid_interface interface ≡ true }
-    requires at_le_limit { at ≤ limit }
+    requires in_range { valid_interface interface ≡ true }
+    requires in_time { at ≤ limit }
     ensures { result ≡ Supply.supply interface at }
 {
     let period = interface.period.0;

@@ -40,7 +40,7 @@ fn put_entry(number: u16, outcome: Outcome, byte: usize, reply: &mut [u8], at: u
 // The entries of the components in their order, each read between its edges and judged after its children.
 pub(crate) fn put_all(sheet: &[u8], edges: &[usize; 257], count: usize, reply: &mut [u8], at: usize)
     requires known { Known sheet.now edges.now count }
-    requires count_in_bounds { at + 36 * count ≤ length reply.old }
+    requires room { at + 36 * count ≤ length reply.old }
     ensures { reply.new ≡ sets reply.old at (entries_to sheet.now count) }
 {
     let from = edges[count];

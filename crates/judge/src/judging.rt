@@ -17,7 +17,7 @@ use budget::refusal;
 
 // The answer at a capacity: one scan up to L.
 fn at_capacity(component: Component, units: Units, length: u32) -> Answer
-    requires length_len { length ≡ common_period_of component }
+    requires whole { length ≡ common_period_of component }
     requires scannable { Scannable component.table (interface_at component units.0) length }
     ensures { result ≡ answer_at component (Capacity.Stated units) }
 {
@@ -37,7 +37,7 @@ fn at_capacity(component: Component, units: Units, length: u32) -> Answer
 
 // The answer for an asked capacity: that at the smallest one which is accepted, or none.
 fn at_smallest(component: Component, length: u32) -> Answer
-    requires length_len { length ≡ common_period_of component }
+    requires whole { length ≡ common_period_of component }
     requires scannable { Scannable component.table (interface_at component 0) length }
     ensures { result ≡ answer_at component Capacity.Asked }
 {

@@ -18,8 +18,8 @@ pub struct Tight {
 
 // The tighter of the tightest step instant so far and a later one; the first of equals stays.
 pub(crate) fn tighter(best: Tight, here: Tight) -> Tight
-    requires small { Small best }
-    requires small_2 { Small here }
+    requires best_small { Small best }
+    requires here_small { Small here }
     ensures { result ≡ tighter_of best here }
 {
     if best.at == 0 {
@@ -33,8 +33,8 @@ pub(crate) fn tighter(best: Tight, here: Tight) -> Tight
 
 // Supply minus demand as a signed number.
 fn difference(units: u32, demand: u32) -> i32
-    requires units_le_limit { units ≤ limit }
-    requires demand_bound { demand ≤ 128 * limit }
+    requires units_few { units ≤ limit }
+    requires demand_few { demand ≤ 128 * limit }
     ensures { result ≡ sub_ℕ units demand }
 {
     units as i32 - demand as i32

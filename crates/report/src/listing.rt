@@ -18,8 +18,8 @@ pub type Page = [u8; 16448];
 
 // Puts the first bytes of a line behind what the page holds.
 fn put_line(page: &mut Page, at: usize, line: &Line, n: usize) -> usize
-    requires n_bound { at + n ≤ 16448 }
-    requires n_bound_2 { (n ≤ 64) × (n ≤ length line.now) }
+    requires page_holds { at + n ≤ 16448 }
+    requires line_holds { (n ≤ 64) × (n ≤ length line.now) }
     ensures { Paged page.old at (take n line.now) page.new result }
 {
     let mut i = 0;

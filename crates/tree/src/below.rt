@@ -147,7 +147,7 @@ pub(crate) fn load_below(
     place: usize,
     component: Component,
 ) -> Load
-    requires parents_len { (length parents.now ≡ length children.now) × (length children.now ≤ 256) × (place ≤ 256) }
+    requires columns { (length parents.now ≡ length children.now) × (length children.now ≤ 256) × (place ≤ 256) }
     requires right { Right component }
     ensures { result ≡ load_on (pairs_from children.now parents.now) (offers_below (wanted_of (pairs_from children.now parents.now) component.number) (pairs_from children.now parents.now) (read_at sheet.now edges.now) place) component }
 {

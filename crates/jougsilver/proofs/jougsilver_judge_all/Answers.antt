@@ -58,7 +58,7 @@ pub put_all-requires : goal.put_all-requires
 put_all-requires c =
     let a = c.args in
     let x = c.contents_of-contents.result.checked in
-    record { known = taken (goal.at.put_all-requires c).Else-refused-ne-NONE; count_in_bounds = entries_fit a.sheet.now x (answered (goal.at.put_all-requires c).After-contents_of-contents) a.reply.now a.at (fits (goal.at.put_all-requires c).Else-narrow-ne-NONE) c.write_checked.ensures.bytes }
+    record { known = taken (goal.at.put_all-requires c).Else-refused-ne-NONE; room = entries_fit a.sheet.now x (answered (goal.at.put_all-requires c).After-contents_of-contents) a.reply.now a.at (fits (goal.at.put_all-requires c).Else-narrow-ne-NONE) c.write_checked.ensures.bytes }
 
 pub returns : goal.returns
 returns c =

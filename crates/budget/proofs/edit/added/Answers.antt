@@ -43,10 +43,10 @@ module _ (c : After-append) where
 
 pub append_part-stood-requires : goal.append_part-stood-requires
 append_part-stood-requires c =
-    let l = c.requires.0 in record { table_value = returned _ [] c.no_tasks.ensures; end_le_most_tasks = (le_of_lt l, search rules, omega (arith, count_is _ [] c.no_tasks.ensures, l)) }
+    let l = c.requires.0 in record { returned = returned _ [] c.no_tasks.ensures; room = (le_of_lt l, search rules, omega (arith, count_is _ [] c.no_tasks.ensures, l)) }
 
 pub with_table-requires : goal.with_table-requires
-with_table-requires c = record { table_value = returned _ _ (longer c); common_value = stored c }
+with_table-requires c = record { returned = returned _ _ (longer c); right = stored c }
 
 pub returns : goal.returns
 returns c = c.with_table.ensures ∙ ap (given (start (goal.at.returns c).After-append).args.component) (tasks_are _ _ (longer (goal.at.returns c).After-append))

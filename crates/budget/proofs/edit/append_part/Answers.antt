@@ -35,7 +35,7 @@ module _ (c : After-append-longer) where
       (omega (arith, so_far, head.loop-place.invariant.2, c.loop-place-test.true))
 
 pub loop-place-init : goal.loop-place-init
-loop-place-init c = (c.requires.end_le_most_tasks.1, c.requires.table_value, c.requires.end_le_most_tasks.2, refl)
+loop-place-init c = (c.requires.room.1, c.requires.returned, c.requires.room.2, refl)
 
 pub loop-place-preserved : goal.loop-place-preserved
 loop-place-preserved c =

@@ -44,17 +44,17 @@ pub append_part-before-requires : goal.append_part-before-requires
 append_part-before-requires c =
     let few = c.requires in
     let l = c.if-count-place.false in
-    record { table_value = returned _ [] c.no_tasks.ensures; end_le_most_tasks = (omega (arith, few, l), search rules, omega (arith, count_is _ [] c.no_tasks.ensures, few, l)) }
+    record { returned = returned _ [] c.no_tasks.ensures; room = (omega (arith, few, l), search rules, omega (arith, count_is _ [] c.no_tasks.ensures, few, l)) }
 
 pub append_part-left-requires : goal.append_part-left-requires
 append_part-left-requires c =
     let few = c.requires in
     let l = c.if-count-place.false in
     let a = c.args in
-    record { table_value = returned _ _ (kept c); end_le_most_tasks = (few, search rules, omega (arith, count_is _ _ (kept c), length-take a.place (tasks_of a.component.table), few, l)) }
+    record { returned = returned _ _ (kept c); room = (few, search rules, omega (arith, count_is _ _ (kept c), length-take a.place (tasks_of a.component.table), few, l)) }
 
 pub with_table-requires : goal.with_table-requires
-with_table-requires c = record { table_value = returned _ _ (shorter (goal.at.with_table-requires c).After-append_part-left); common_value = c.common_of-common.ensures }
+with_table-requires c = record { returned = returned _ _ (shorter (goal.at.with_table-requires c).After-append_part-left); right = c.common_of-common.ensures }
 
 pub returns : goal.returns
 returns c =

@@ -4,4 +4,4 @@ use Rattle.budget.proofs.edit.with_table.Goals as goal
 
 pub returns : goal.returns
 unfolding with_tasks
-returns c = rw (← c.requires.table_value, c.requires.common_value)
+returns c = rw (← c.requires.returned, c.requires.right)

@@ -22,10 +22,10 @@ returns-then-refused-ne-NONE c = c.no_edit.ensures ∙ sym (making_refused _ _ _
 pub append_part-kept-requires : goal.append_part-kept-requires
 append_part-kept-requires c =
     let few = (in_range _ (sym c.check_ranges-refused.ensures ∙ c.if-refused-ne-NONE.false)).count in
-    record { table_value = returned _ [] c.no_tasks.ensures; end_le_most_tasks = (few, search rules, omega (arith, count_is _ [] c.no_tasks.ensures, few)) }
+    record { returned = returned _ [] c.no_tasks.ensures; room = (few, search rules, omega (arith, count_is _ [] c.no_tasks.ensures, few)) }
 
 pub with_table-requires : goal.with_table-requires
-with_table-requires c = record { table_value = returned _ _ (copied (goal.at.with_table-requires c).After-append_part-kept); common_value = c.common_of-common.ensures }
+with_table-requires c = record { returned = returned _ _ (copied (goal.at.with_table-requires c).After-append_part-kept); right = c.common_of-common.ensures }
 
 pub returns : goal.returns
 returns c =

@@ -29,7 +29,7 @@ known c =
     (passed _ (sym c.check_interface.ensures ∙ p.0), p.1)
 
 pub units_by-requires : goal.units_by-requires
-units_by-requires c = let k = known c in record { interface_value = k.0; at_le_limit = k.1 }
+units_by-requires c = let k = known c in record { in_range = k.0; in_time = k.1 }
 
 pub returns : goal.returns
 returns c = rw c.units_by.ensures (sym (supply_given _ _ (known (goal.at.returns c).Else-refused-ne-NONE).0 (known (goal.at.returns c).Else-refused-ne-NONE).1))

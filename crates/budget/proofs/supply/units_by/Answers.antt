@@ -20,7 +20,7 @@ module _ (s : Start) where
   whole = whole_periods i s.args.at
 
   in_range : ValidInterface i
-  in_range = valid_interface_lem i s.requires.interface_value
+  in_range = valid_interface_lem i s.requires.in_range
 
   -- the whole periods take no more slots than lie behind the wait, and their capacities no more than they
   bounds : (whole * Π i ≤ s.args.at - (Δ i - Θ i)) × (whole * Θ i ≤ whole * Π i)

@@ -29,7 +29,7 @@ loop-k-init c =
     (passing_none c.requires.known x.result x.ensures refl, refl)
 
 pub overflow_add-at : goal.overflow_add-at
-overflow_add-at c = entry_place _ _ _ _ c.requires.count_in_bounds c.loop-k-test.true (search rules)
+overflow_add-at c = entry_place _ _ _ _ c.requires.room c.loop-k-test.true (search rules)
 
 -- there is room for this entry too, and its byte is a number of 4 bytes
 pub put_entry-requires : goal.put_entry-requires
@@ -37,7 +37,7 @@ put_entry-requires c =
     let a = c.args in
     let l = c.loop-k in
     let next = c.loop-k-test.true in
-    (entry_room a.sheet.now a.reply.now a.at a.count l.k l.reply l.invariant.1 c.requires.count_in_bounds next, known_small c.requires.known l.k (le_of_lt next))
+    (entry_room a.sheet.now a.reply.now a.at a.count l.k l.reply l.invariant.1 c.requires.room next, known_small c.requires.known l.k (le_of_lt next))
 
 pub loop-k-preserved : goal.loop-k-preserved
 loop-k-preserved c =

@@ -8,4 +8,4 @@ margin_from-margin-requires c = tight_small _ _ _ _ c.requires.scannable c.scan-
 
 pub returns : goal.returns
 returns c =
-    scanned_answer _ _ _ _ _ _ _ c.requires.length_len c.scan-found.ensures.short c.scan-found.ensures.tight c.verdict_from.ensures c.margin_from-margin.ensures
+    scanned_answer _ _ _ _ _ _ _ c.requires.whole c.scan-found.ensures.short c.scan-found.ensures.tight c.verdict_from.ensures c.margin_from-margin.ensures

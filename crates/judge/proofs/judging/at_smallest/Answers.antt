@@ -6,7 +6,7 @@ use Rattle.judge.proofs.CapacityLaws.{capacity_is, capacity_valid}
 use Rattle.judge.proofs.judging.at_smallest.Goals as goal
 
 pub returns-then-last-found : goal.returns-then-last-found
-returns-then-last-found c = none_answer _ _ (capacity_is _ _ _ c.requires.length_len c.least_capacity-found.ensures) c.if-last-found.true
+returns-then-last-found c = none_answer _ _ (capacity_is _ _ _ c.requires.whole c.least_capacity-found.ensures) c.if-last-found.true
 
 pub at_capacity-requires-clause-scannable : goal.at_capacity-requires-clause-scannable
 at_capacity-requires-clause-scannable c =
@@ -20,4 +20,4 @@ at_capacity-requires-clause-scannable c =
 
 pub returns : goal.returns
 returns c =
-    c.at_capacity.ensures ∙ found_answer _ _ (capacity_is _ _ _ c.requires.length_len c.least_capacity-found.ensures) c.if-last-found.false
+    c.at_capacity.ensures ∙ found_answer _ _ (capacity_is _ _ _ c.requires.whole c.least_capacity-found.ensures) c.if-last-found.false

@@ -11,12 +11,12 @@ returns-then-refused-ne-NONE c = refused_answer _ _ (refused _ _ c.requires) c.i
 pub at_capacity-requires : goal.at_capacity-requires
 at_capacity-requires c =
     let e = c.if-refused-ne-NONE.false in
-    record { length_len = length_is _ c.args.whole c.requires e; scannable = scannable _ c.args.whole c.requires e _ (stated_fits _ (refused _ _ c.requires ∙ e) _ c.in-Stated.is) }
+    record { whole = length_is _ c.args.whole c.requires e; scannable = scannable _ c.args.whole c.requires e _ (stated_fits _ (refused _ _ c.requires ∙ e) _ c.in-Stated.is) }
 
 pub at_smallest-requires : goal.at_smallest-requires
 at_smallest-requires c =
     let e = c.if-refused-ne-NONE.false in
-    record { length_len = length_is _ c.args.whole c.requires e; scannable = scannable _ c.args.whole c.requires e 0 (omega arith) }
+    record { whole = length_is _ c.args.whole c.requires e; scannable = scannable _ c.args.whole c.requires e 0 (omega arith) }
 
 pub returns-in-Stated : goal.returns-in-Stated
 returns-in-Stated c =

@@ -44,9 +44,9 @@ returns-then-demand-before c =
 given : (c : After-supply-given) → c.supply-given.result.units.0 ≡ supply c.args.interface c.args.at
 given c = ap (λ (a : Amount). a.units.0) (c.supply-given.ensures ∙ supply_given _ _ c.requires.interface c.requires.bounded)
 
-pub tighter-requires-clause-small_2 : goal.tighter-requires-clause-small_2
-tighter-requires-clause-small_2 c =
-    let is = given (goal.at.tighter-requires-clause-small_2 c).After-supply-given in
+pub tighter-requires-clause-here_small : goal.tighter-requires-clause-here_small
+tighter-requires-clause-here_small c =
+    let is = given (goal.at.tighter-requires-clause-here_small c).After-supply-given in
     record {
       units = le_trans (le_of_eq is) (le_trans (supply_le_time _ (valid_interface_lem _ c.requires.interface) c.args.at) c.requires.bounded);
       demand = c.requires.asked_fits;

@@ -80,7 +80,7 @@ load_below-load-requires c =
     let r = (goal.at.load_below-load-requires c).After-read_pairs-read in
     let children = lent r c.read_pairs-read.result.children (children_places r) in
     record {
-      parents_len = (
+      columns = (
         lent r c.read_pairs-read.result.parents (parents_places r) ∙ sym children,
         rw children (few r),
         omega (arith, last (goal.at.load_below-load-requires c).Else-count-place, c.if-count-place.false),
