@@ -6,6 +6,7 @@ use crate::common_period::common_period;
 use crate::component::Component;
 
 // The refusal of a component: 6, 9, 17, and 10 where its common period is too long.
+#[tactic(auto, unfolding(crate::specs::Component::common_period_answer))]
 pub fn check_component(component: Component) -> u16
     ensures { result ≡ component_refusal component }
 {

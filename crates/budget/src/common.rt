@@ -44,6 +44,7 @@ fn capped(length: u64) -> Common
 }
 
 // One period more: one common multiple with what is stored. What is above the limit never falls back.
+#[tactic(auto, unfolding(crate::specs::Common::grown))]
 pub fn grow(common: Common, period: Time) -> Common
     ensures { result ≡ grown common period.0 }
 {
@@ -70,6 +71,7 @@ pub fn common_of(period: Time, table: Table) -> Common
 }
 
 // Whether two stored values are the same.
+#[tactic(auto, unfolding(crate::specs::Common::same_common))]
 pub fn same_common(a: Common, b: Common) -> bool
     ensures { result ≡ same_common a b }
 {

@@ -26,6 +26,7 @@ pub(crate) fn no_period(number: u16) -> CommonPeriod
 }
 
 // What a stored value says: L, or 10 for the mark.
+#[tactic(auto, unfolding(crate::specs::inner::Stored::stored_answer))]
 pub(crate) fn stored(common: Common) -> CommonPeriod
     ensures { result ≡ stored_answer common }
 {

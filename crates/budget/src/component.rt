@@ -28,6 +28,7 @@ pub struct Component {
 
 // The stand-in for a component that can't be answered (RULES 11): number 0, the dedicated processor as its stated interface, no tasks,
 // and so a common period of 1.
+#[tactic(auto, unfolding(crate::specs::Component::refused))]
 pub fn refused() -> Component
     ensures { result ≡ refused }
 {
@@ -47,6 +48,7 @@ pub fn refused() -> Component
 }
 
 // A component's interface: at the capacity stated, or at 0 where it is asked.
+#[tactic(auto, unfolding(crate::specs::Component::interface_of))]
 pub fn interface_of(component: Component) -> Interface
     ensures { result ≡ interface_of component }
 {
@@ -80,6 +82,7 @@ pub fn check_ranges(component: Component) -> u16
 }
 
 // Whether the stored common period is the component's own: the true one is worked out for it.
+#[tactic(auto, unfolding(crate::specs::Component::is_right))]
 pub fn is_right(component: Component) -> bool
     ensures { result ≡ is_right component }
 {

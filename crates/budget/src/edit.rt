@@ -49,6 +49,7 @@ pub(crate) fn no_edit(number: u16) -> Edited
 }
 
 // An edit that gives the component these tasks, with their common period.
+#[tactic(auto, unfolding(crate::specs::Component::with_tasks))]
 pub(crate) fn with_table(component: Component, common: Common, table: Table) -> Edited
     requires returned { table ≡ table_of (tasks_of table) }
     requires right { common ≡ common_of component.period.0 (tasks_of table) }

@@ -34,6 +34,7 @@ pub fn dedicated() -> Interface
 }
 
 // The refusal of an interface: 0 ≤ Θ ≤ Δ ≤ Π ≤ the limit and Δ ≥ 1, or 9.
+#[tactic(auto, unfolding(crate::specs::Interface::interface_refusal, crate::specs::Interface::valid_interface))]
 pub fn check_interface(interface: Interface) -> u16
     ensures { result ≡ interface_refusal interface }
 {

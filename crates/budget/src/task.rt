@@ -30,6 +30,7 @@ impl Table {
 }
 
 // The refusal of a task: 1 ≤ C ≤ D ≤ T ≤ the limit and J ≤ D − C, or 9.
+#[tactic(auto, unfolding(crate::specs::Task::task_refusal, crate::specs::Task::valid_task))]
 pub fn check_task(task: Task) -> u16
     ensures { result ≡ task_refusal task }
 {
@@ -86,6 +87,7 @@ fn check_tasks(table: Table) -> u16
 }
 
 // The refusal of a table: more than 64 tasks are 6, then a task out of range is 9.
+#[tactic(auto, unfolding(crate::specs::Task::table_refusal))]
 pub fn check_table(table: Table) -> u16
     ensures { result ≡ table_refusal table }
 {
@@ -97,6 +99,7 @@ pub fn check_table(table: Table) -> u16
 }
 
 // The table that has no tasks.
+#[tactic(auto, unfolding(crate::specs::Task::table_of))]
 pub fn no_tasks() -> Table
     ensures { result ≡ table_of [] }
 {
@@ -112,6 +115,7 @@ pub fn no_tasks() -> Table
 }
 
 // The table with one task more, behind the others; a full table stays as it is.
+#[tactic(auto, unfolding(crate::specs::Task::appended))]
 pub fn append(table: Table, task: Task) -> Table
     ensures { result ≡ appended table task }
 {

@@ -114,6 +114,7 @@ fn waiting_reply(number: u16) -> Reply
 }
 
 // The reply on a component, in the order of its fields.
+#[tactic(auto, unfolding(crate::specs::Answer::reply_of))]
 pub(crate) fn reply_of(number: u16, outcome: Outcome) -> Reply
     ensures { result ≡ reply_of number outcome }
 {

@@ -31,6 +31,7 @@ pub fn jougsilver_judge(sheet: &[u8], place: usize, reply: &mut [u8], at: usize)
 
 // Checks a whole sheet and puts what it was answered into the host's buffer from a place on. That a sheet is refused is the answer here, so only the
 // room can be refused.
+#[tactic(auto, unfolding(transfer::specs::Writing::written))]
 pub fn jougsilver_check(sheet: &[u8], reply: &mut [u8], at: usize) -> u32
     ensures answer { result ≡ check_refusal (length reply.old) at }
     ensures bytes { reply.new ≡ buffered (check_refusal (length reply.old) at) reply.old at (check_reply sheet.now) }

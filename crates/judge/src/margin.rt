@@ -41,6 +41,7 @@ fn difference(units: u32, demand: u32) -> i32
 }
 
 // The margin where the tightest step instant is known, or none where there is no step instant.
+#[tactic(auto, unfolding(crate::specs::inner::Tried::margin_from))]
 pub(crate) fn margin_from(best: Tight) -> Margined
     requires { Small best }
     ensures { result ≡ margin_from best }

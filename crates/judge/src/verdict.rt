@@ -7,6 +7,7 @@ use crate::steps::earlier;
 use budget::quantity::Time;
 
 // The first short instant once this instant has been tried too; the first one found stays.
+#[tactic(auto, unfolding(crate::specs::inner::Tried::sooner_short))]
 pub(crate) fn sooner_short(short: u32, at: u32, units: u32, demand: u32) -> u32
     ensures { result ≡ sooner_short short at units demand }
 {
@@ -17,6 +18,7 @@ pub(crate) fn sooner_short(short: u32, at: u32, units: u32, demand: u32) -> u32
 }
 
 // The verdict where the first short instant is known, past `length` for none.
+#[tactic(auto, unfolding(crate::specs::inner::Tried::verdict_from))]
 pub(crate) fn verdict_from(short: u32, length: u32) -> Verdict
     ensures { result ≡ verdict_from short length }
 {

@@ -51,6 +51,7 @@ pub(crate) const LATE: u16 = 5;
 pub(crate) const PAIR: u16 = 6;
 
 // The widths of a kind's fields: length, kind, then what it says; a kind that is not in the list has none.
+#[tactic(auto, unfolding(crate::specs::Layout::row_of))]
 pub(crate) fn row_of(kind: u16) -> Row
     ensures { result ≡ row_of kind }
 {
@@ -119,6 +120,7 @@ fn pair_of(values: Values) -> Pair
 }
 
 // The record of a kind with these values.
+#[tactic(auto, unfolding(crate::specs::Layout::row_of, crate::specs::Layout::record_with))]
 fn record_with(kind: u16, values: Values) -> Record
     requires { Held (row_of kind) values }
     ensures { result ≡ record_with kind values }
@@ -156,6 +158,7 @@ fn of_kind(rest: &[u8], kind: u16, size: usize) -> Record
 
 // The record that begins what is left of a sheet. Most records are tasks: their kind goes in as a constant, so that the compiler
 // knows the row and reads it without a loop.
+#[tactic(auto, unfolding(crate::specs::Layout::record_of))]
 pub fn record_of(rest: &[u8]) -> Record
     ensures { result ≡ record_of rest.now }
 {

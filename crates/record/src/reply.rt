@@ -27,6 +27,7 @@ fn reply_row() -> Row
 }
 
 // Writes a reply from a place on, and answers the place behind it.
+#[tactic(auto, unfolding(crate::specs::Reply::reply_bytes, crate::specs::Field::encode))]
 pub fn write_reply(buffer: &mut [u8], at: usize, reply: Reply) -> Written
     ensures answer { result ≡ written (room_refusal (length buffer.old) at 24) at (reply_bytes reply) }
     ensures bytes { buffer.new ≡ buffered (room_refusal (length buffer.old) at 24) buffer.old at (reply_bytes reply) }

@@ -19,6 +19,7 @@ pub struct Written {
 }
 
 // The refusal of a place past the buffer, or of one with too little room behind it.
+#[tactic(auto, unfolding(crate::specs::Writing::room_refusal))]
 pub fn check_room(room: usize, at: usize, size: usize) -> u16
     ensures { result ≡ room_refusal room at size }
 {
@@ -141,6 +142,7 @@ pub fn write_record(buffer: &mut [u8], at: usize, record: Record) -> Written
 }
 
 // Writes three numbers of 4 bytes each from a place on, and answers the place behind them.
+#[tactic(auto, unfolding(crate::specs::Writing::numbers_bytes))]
 pub fn write_numbers(buffer: &mut [u8], at: usize, first: u32, second: u32, third: u32) -> Written
     ensures answer { result ≡ written (room_refusal (length buffer.old) at (length (numbers_bytes first second third))) at (numbers_bytes first second third) }
     ensures bytes { buffer.new ≡ buffered (room_refusal (length buffer.old) at (length (numbers_bytes first second third))) buffer.old at (numbers_bytes first second third) }

@@ -39,6 +39,7 @@ fn put_least(line: &mut Line, at: usize, margin: i32, instant: u32) -> usize
 }
 
 // The last fields of an accepted or short component, and the newline.
+#[tactic(auto, unfolding(crate::specs::Lines::margin_fields, crate::specs::Lines::behind))]
 fn put_margin(line: &mut Line, at: usize, margined: Margined) -> usize
     requires { at ≤ 38 }
     ensures { Put line.old at (behind (margin_fields margined)) line.new result }
@@ -69,6 +70,7 @@ fn put_short(line: &mut Line, at: usize, capacity: u32, instant: u32, margined: 
     put_margin(line, second, margined)
 }
 
+#[tactic(auto, unfolding(crate::specs::Lines::verdict_fields, crate::specs::Lines::behind))]
 fn put_verdict(
     line: &mut Line,
     at: usize,
@@ -87,6 +89,7 @@ fn put_verdict(
 }
 
 // What stands behind a component's number, and the newline.
+#[tactic(auto, unfolding(crate::specs::Lines::behind, crate::specs::Lines::answer_fields))]
 fn put_answer(line: &mut Line, at: usize, answer: Answer) -> usize
     requires { at ≤ 6 }
     ensures { Put line.old at (behind (answer_fields answer)) line.new result }
@@ -100,6 +103,7 @@ fn put_answer(line: &mut Line, at: usize, answer: Answer) -> usize
 }
 
 // What stands behind a component's number in its tree, and the newline.
+#[tactic(auto, unfolding(crate::specs::Lines::behind, crate::specs::Lines::outcome_fields))]
 fn put_outcome(line: &mut Line, at: usize, outcome: Outcome) -> usize
     requires { at ≤ 6 }
     ensures { Put line.old at (behind (outcome_fields outcome)) line.new result }

@@ -26,6 +26,7 @@ fn apart(period: u32, task: u32, release: u32, later_task: u32, later_release: u
 }
 
 // Whether a job and a later one are sorted by release and then by task, and apart.
+#[tactic(auto, unfolding(crate::specs::inner::Scan::follows))]
 fn follows(period: u32, task: u32, release: u32, later_task: u32, later_release: u32) -> bool
     ensures { result ≡ follows period task release later_task later_release }
 {

@@ -30,6 +30,7 @@ pub struct Walked {
 }
 
 // The miss at instant t, by the lowest late task; NO_TASK stands for none.
+#[tactic(auto, unfolding(crate::specs::Walk::miss_of))]
 fn miss_of(t: u32, late: u32) -> Miss
     ensures { result ≡ miss_of t late }
 {
@@ -148,6 +149,7 @@ fn check_walk(
 }
 
 // The walk of a task table, jobs and a trace: the first miss, the units served and idle up to the stop, and each job's work left there.
+#[tactic(auto, unfolding(crate::specs::Walk::walk_answer, crate::specs::Walk::left_after, crate::specs::Walk::refused_walk))]
 pub fn walk(
     table: Table,
     tasks: &[u32],

@@ -16,6 +16,7 @@ pub struct Checked {
     pub count: usize,
 }
 
+#[tactic(auto, unfolding(crate::specs::Check::checked_of))]
 fn checked_of(number: u16, place: usize, count: usize) -> Checked
     ensures { result ≡ checked_of number place count }
 {

@@ -14,6 +14,7 @@ pub struct Contents {
 }
 
 // Judges a sheet and finds all its components.
+#[tactic(auto, unfolding(crate::specs::Contents::contents_of, crate::specs::Contents::no_edges, crate::specs::inner::Noted::walked_of))]
 pub fn contents_of(sheet: &[u8]) -> Contents
     ensures { result ≡ contents_of sheet.now }
 {

@@ -29,6 +29,7 @@ pub struct State {
     pub tasks: usize,
 }
 
+#[tactic(auto, unfolding(crate::specs::Judging::refuse))]
 fn refuse(number: u16, state: State) -> State
     ensures { result ≡ refuse number state }
 {
@@ -43,6 +44,7 @@ fn refuse(number: u16, state: State) -> State
 }
 
 // Before the first record: a sheet of too many bytes is refused as a whole.
+#[tactic(auto, unfolding(crate::specs::Judging::opened, crate::specs::Judging::start))]
 pub fn opened(bytes: usize) -> State
     ensures { result ≡ opened bytes }
 {
@@ -70,6 +72,7 @@ fn units_of(capacity: Capacity) -> Units
 }
 
 // The refusals of a component record; a capacity that is asked is judged as 0.
+#[tactic(auto, unfolding(crate::specs::Judging::head_refusal))]
 fn check_head(state: State, head: Head) -> u16
     ensures { result ≡ head_refusal state head }
 {
@@ -94,6 +97,7 @@ fn check_head(state: State, head: Head) -> u16
 }
 
 // The ranges of a task record. A J of 0 belongs into the kind that does not state it, so that each task has one form.
+#[tactic(auto, unfolding(crate::specs::Judging::form_refusal))]
 fn check_form(task: Task, stated: bool) -> u16
     ensures { result ≡ form_refusal task stated }
 {
@@ -105,6 +109,7 @@ fn check_form(task: Task, stated: bool) -> u16
 }
 
 // The refusals of a task record.
+#[tactic(auto, unfolding(crate::specs::Judging::standing_refusal))]
 fn check_standing(state: State, task: Task, stated: bool) -> u16
     ensures { result ≡ standing_refusal state task stated }
 {
@@ -120,6 +125,7 @@ fn check_standing(state: State, task: Task, stated: bool) -> u16
 }
 
 // The refusal of one record; where none was read, it is the one of its layout. A pair or the end record ends the components.
+#[tactic(auto, unfolding(crate::specs::Judging::record_refusal))]
 fn check_record(state: State, record: Record) -> u16
     ensures { result ≡ record_refusal state «record» }
 {
@@ -132,6 +138,7 @@ fn check_record(state: State, record: Record) -> u16
     }
 }
 
+#[tactic(auto, unfolding(crate::specs::Judging::after_head))]
 fn after_head(state: State, head: Head) -> State
     requires { (state.place + size_of (Record.ComponentRecord head) ≤ 65_536) × (state.count < 256) }
     ensures { result ≡ after_head state head }
@@ -148,6 +155,7 @@ fn after_head(state: State, head: Head) -> State
     }
 }
 
+#[tactic(auto, unfolding(crate::specs::Judging::after_task))]
 fn after_task(state: State, task: Task, stated: bool) -> State
     requires { (state.place + size_of (Record.TaskRecord stated task) ≤ 65_536) × (state.tasks < 64) }
     ensures { result ≡ after_task state task stated }

@@ -28,6 +28,7 @@ pub struct Ends {
     pub place: usize,
 }
 
+#[tactic(auto, unfolding(crate::specs::inner::PairCourse::halted))]
 fn halt(number: u16, course: Course) -> Course
     ensures { result ≡ halted number course }
 {
@@ -82,6 +83,7 @@ fn check_pair(lowest: u32, child: usize, parent: usize, load: usize, pair: Pair)
 }
 
 // The end record counts the components, and its bytes are all that are left.
+#[tactic(auto, unfolding(crate::specs::Pairs::ending_refusal))]
 fn check_ending(components: usize, count: u16, left: usize) -> u16
     ensures { (es : List Entry) → length es ≡ components → result ≡ ending_refusal es count left }
 {
@@ -94,6 +96,7 @@ fn check_ending(components: usize, count: u16, left: usize) -> u16
     refusal::NONE
 }
 
+#[tactic(auto, unfolding(crate::specs::inner::PairCourse::behind_pair))]
 fn after_pair(course: Course, pair: Pair) -> Course
     requires { course.place + size_of (Record.PairRecord pair) ≤ 65_536 }
     ensures { result ≡ behind_pair course pair }

@@ -20,6 +20,7 @@ pub struct Located {
     pub span: Span,
 }
 
+#[tactic(auto, unfolding(crate::specs::Part::chosen))]
 fn choose(checked: Checked, place: usize) -> Checked
     ensures { result ≡ chosen checked place }
 {
@@ -61,6 +62,7 @@ pub fn locate(sheet: &[u8], place: usize) -> Located
 }
 
 // The refusal of handing back a part, with the byte where a sheet's record began.
+#[tactic(auto, unfolding(crate::specs::Part::located))]
 pub fn check_part(sheet: &[u8], place: usize) -> Checked
     ensures { result ≡ part_check sheet.now place }
 {

@@ -98,6 +98,7 @@ pub fn read_pair(sheet: &[u8], place: usize) -> PairReading
 }
 
 // Writes a pair from a place on, and answers the place behind it: 16 unless the parent is larger, then 11.
+#[tactic(auto, unfolding(crate::specs::Pairing::pair_writing_refusal, record::specs::Writing::written, record::specs::Writing::buffered, record::specs::Layout::record_bytes))]
 pub fn write_pair(buffer: &mut [u8], at: usize, pair: Pair) -> Written
     ensures answer { result ≡ written (pair_writing_refusal (length buffer.old) at pair) at (pair_bytes pair) }
     ensures bytes { buffer.new ≡ buffered (pair_writing_refusal (length buffer.old) at pair) buffer.old at (pair_bytes pair) }

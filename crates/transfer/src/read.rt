@@ -74,6 +74,7 @@ fn component_with(part: &[u8], head: Head) -> Component
     with_head(head, table)
 }
 
+#[tactic(auto, unfolding(record::specs::Layout::size_of, crate::specs::Reading::component_from))]
 fn component_from(part: &[u8], record: Record) -> Component
     requires { size_of «record» ≤ length part.now }
     ensures { result ≡ component_from part.now «record» }
@@ -141,6 +142,7 @@ pub fn part_at<'a>(sheet: &'a [u8], edges: &[usize; 257], place: usize) -> &'a [
 }
 
 // Reads the component at a place of a sheet whose edges are known.
+#[tactic(auto, unfolding(crate::specs::ReadAt::read_at))]
 pub fn read_at(sheet: &[u8], edges: &[usize; 257], place: usize) -> Component
     ensures { result ≡ read_at sheet.now edges.now place }
 {

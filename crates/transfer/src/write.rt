@@ -106,6 +106,7 @@ fn store(buffer: &mut [u8], at: usize, component: Component) -> usize
 }
 
 // Writes one component's records from a place on, from what it was refused for when it was handed in.
+#[tactic(auto, unfolding(crate::specs::Writing::written, crate::specs::Writing::buffered))]
 pub(crate) fn write_held(held: u16, buffer: &mut [u8], at: usize, component: Component) -> Written
     requires { held ≡ held_refusal component }
     ensures answer { result ≡ written (writing_refusal (length buffer.old) at component) at (component_bytes component) }

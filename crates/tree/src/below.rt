@@ -56,6 +56,7 @@ pub(crate) fn wanted_below(children: &[u16], parents: &[u16], number: u16) -> Wa
 }
 
 // What is noted where no component is read: the component of a refused reading, which offers nothing.
+#[tactic(auto, unfolding(budget::specs::Component::refused))]
 fn none_read() -> Offer
     ensures { result ≡ offering refused withheld }
 {
@@ -68,6 +69,7 @@ fn none_read() -> Offer
 }
 
 // What is noted of the component of a part before it is judged: its record alone says it, and no task is read.
+#[tactic(auto, unfolding(transfer::specs::Reading::component_from, transfer::specs::Reading::with_head))]
 fn unjudged(part: &[u8]) -> Offer
     ensures { result ≡ offering (component_from part.now (record_of part.now)) withheld }
 {
@@ -87,6 +89,7 @@ fn unjudged(part: &[u8]) -> Offer
 }
 
 // The same of the component at a place of a sheet whose edges are known.
+#[tactic(auto, unfolding(transfer::specs::ReadAt::read_at))]
 fn unjudged_at(sheet: &[u8], edges: &[usize; 257], place: usize) -> Offer
     ensures { result ≡ offering (read_at sheet.now edges.now place) withheld }
 {

@@ -44,6 +44,7 @@ fn offered_on(component: Component, judged: Judged) -> Offer
 }
 
 // Only a component that is accepted offers anything.
+#[tactic(auto, unfolding(crate::specs::Offer::offer_of))]
 pub(crate) fn offer_of(component: Component, outcome: Outcome) -> Offer
     ensures { result ≡ offer_of component outcome }
 {

@@ -11,6 +11,7 @@ use budget::component::Component;
 use judge::known;
 
 // The judge's answer on the component with its workload. Its common period is known: what a workload makes stores the right one.
+#[tactic(auto, unfolding(crate::specs::Outcome::outcome_of))]
 pub(crate) fn outcome_of(load: Load) -> Outcome
     requires { Right load.component }
     ensures { result ≡ outcome_of load }

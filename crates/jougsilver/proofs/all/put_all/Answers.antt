@@ -58,32 +58,8 @@ shape_of-reply c =
 pub returns : goal.returns
 returns c = let all : c.loop-k.k ≡ c.args.count = omega (arith, c.loop-k.invariant.0.within) in rw all at c.loop-k.invariant.1
 
-pub slice_bounds-read_pairs-end : goal.slice_bounds-read_pairs-end
-slice_bounds-read_pairs-end c = omega arith
-
-pub slice_bounds-children-end : goal.slice_bounds-children-end
-slice_bounds-children-end c = omega arith
-
 pub slice_bounds-turn_at-end : goal.slice_bounds-turn_at-end
 slice_bounds-turn_at-end c = lent_count _ _ (omega arith)
 
-pub slice_bounds-parents-end : goal.slice_bounds-parents-end
-slice_bounds-parents-end c = omega arith
-
 pub slice_bounds-turn_at-end-in-loop-k : goal.slice_bounds-turn_at-end-in-loop-k
 slice_bounds-turn_at-end-in-loop-k c = lent_count _ _ (omega arith)
-
-pub offset_bounds-edges-k : goal.offset_bounds-edges-k
-offset_bounds-edges-k c = omega arith
-
-pub bounds-edges-k : goal.bounds-edges-k
-bounds-edges-k c = omega arith
-
-pub overflow_mul-k : goal.overflow_mul-k
-overflow_mul-k c = omega arith
-
-pub overflow_add-k : goal.overflow_add-k
-overflow_add-k c = omega arith
-
-pub loop-k-smaller : goal.loop-k-smaller
-loop-k-smaller c = omega arith

@@ -21,15 +21,3 @@ pub returns : goal.returns
 returns c = let a = c.args in let l = c.loop-unread in
     let read = read_all a.bytes.now a.at a.width l.value l.unread l.invariant c.loop-unread-test.false in
     record { value = read.0; fits = read.1 }
-
-pub overflow_sub-unread : goal.overflow_sub-unread
-overflow_sub-unread c = omega arith
-
-pub overflow_add-place : goal.overflow_add-place
-overflow_add-place c = omega arith
-
-pub bounds-bytes-place : goal.bounds-bytes-place
-bounds-bytes-place c = omega arith
-
-pub loop-unread-smaller : goal.loop-unread-smaller
-loop-unread-smaller c = omega arith

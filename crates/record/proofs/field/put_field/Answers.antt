@@ -16,18 +16,3 @@ shape_of-part c = c.loop-left.invariant.long
 pub returns : goal.returns
 returns c = let a = c.args in let l = c.loop-left in
     put_all_lem a.part.now a.at a.width a.value l.part l.place l.rest l.left l.invariant (omega arith)
-
-pub overflow_cast-part : goal.overflow_cast-part
-overflow_cast-part c = omega arith
-
-pub bounds-part-place : goal.bounds-part-place
-bounds-part-place c = omega arith
-
-pub overflow_add-place : goal.overflow_add-place
-overflow_add-place c = omega arith
-
-pub overflow_sub-left : goal.overflow_sub-left
-overflow_sub-left c = omega arith
-
-pub loop-left-smaller : goal.loop-left-smaller
-loop-left-smaller c = omega arith

@@ -33,21 +33,3 @@ returns c = let a = c.args in let l = c.loop-i in
     let n : length a.row ≡ 8 = search rules in
     let m : length a.values ≡ 8 = search rules in
     storing_all a.part.now a.row a.values (m ∙ sym n) l.part l.place l.i l.invariant (omega arith)
-
-pub offset_bounds-row-i : goal.offset_bounds-row-i
-offset_bounds-row-i c = omega arith
-
-pub bounds-row-i : goal.bounds-row-i
-bounds-row-i c = omega arith
-
-pub offset_bounds-values-i : goal.offset_bounds-values-i
-offset_bounds-values-i c = omega arith
-
-pub bounds-values-i : goal.bounds-values-i
-bounds-values-i c = omega arith
-
-pub overflow_add-i : goal.overflow_add-i
-overflow_add-i c = omega arith
-
-pub loop-i-smaller : goal.loop-i-smaller
-loop-i-smaller c = omega arith

@@ -22,18 +22,3 @@ pub returns : goal.returns
 returns c = let a = c.args in let l = c.loop-i in
     let n : length a.row ≡ 8 = search rules in
     let e = ap row_length (none_left a.row l.i (omega arith)) in omega (arith, l.invariant)
-
-pub loop-i-init : goal.loop-i-init
-loop-i-init c = omega arith
-
-pub offset_bounds-row-i : goal.offset_bounds-row-i
-offset_bounds-row-i c = omega arith
-
-pub bounds-row-i : goal.bounds-row-i
-bounds-row-i c = omega arith
-
-pub overflow_add-i : goal.overflow_add-i
-overflow_add-i c = omega arith
-
-pub loop-i-smaller : goal.loop-i-smaller
-loop-i-smaller c = omega arith

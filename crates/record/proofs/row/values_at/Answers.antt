@@ -30,21 +30,3 @@ pub returns : goal.returns
 returns c = let a = c.args in let l = c.loop-i in
     let n : length a.row ≡ 8 = search rules in
     record { values = reading_all a.row a.bytes.now l.values l.place l.i l.invariant (omega arith); fit = l.invariant.held }
-
-pub offset_bounds-row-i : goal.offset_bounds-row-i
-offset_bounds-row-i c = omega arith
-
-pub bounds-row-i : goal.bounds-row-i
-bounds-row-i c = omega arith
-
-pub offset_bounds-values-i : goal.offset_bounds-values-i
-offset_bounds-values-i c = omega arith
-
-pub bounds-values-i : goal.bounds-values-i
-bounds-values-i c = omega arith
-
-pub overflow_add-i : goal.overflow_add-i
-overflow_add-i c = omega arith
-
-pub loop-i-smaller : goal.loop-i-smaller
-loop-i-smaller c = omega arith

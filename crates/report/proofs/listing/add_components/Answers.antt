@@ -18,9 +18,6 @@ slice_bounds-read_pairs-count c = known_within c.requires _ (omega arith)
 pub slice_bounds-read_pairs-start : goal.slice_bounds-read_pairs-start
 slice_bounds-read_pairs-start c = known_within c.requires _ (omega arith)
 
-pub slice_bounds-read_pairs-end : goal.slice_bounds-read_pairs-end
-slice_bounds-read_pairs-end c = omega arith
-
 pub loop-k-init : goal.loop-k-init
 loop-k-init c =
     let x = c.read_pairs-read in
@@ -42,20 +39,8 @@ loop-k-preserved c =
 pub returns : goal.returns
 returns c = let all : c.loop-k.k ≡ c.args.count = omega (arith, c.loop-k.invariant.0.within) in rw all at c.loop-k.invariant.1
 
-pub slice_bounds-children-end : goal.slice_bounds-children-end
-slice_bounds-children-end c = omega arith
-
 pub slice_bounds-turn_at-end : goal.slice_bounds-turn_at-end
 slice_bounds-turn_at-end c = lent_count _ _ (omega arith)
 
-pub slice_bounds-parents-end : goal.slice_bounds-parents-end
-slice_bounds-parents-end c = omega arith
-
 pub slice_bounds-turn_at-end-in-loop-k : goal.slice_bounds-turn_at-end-in-loop-k
 slice_bounds-turn_at-end-in-loop-k c = lent_count _ _ (omega arith)
-
-pub overflow_add-k : goal.overflow_add-k
-overflow_add-k c = omega arith
-
-pub loop-k-smaller : goal.loop-k-smaller
-loop-k-smaller c = omega arith

@@ -21,6 +21,3 @@ returns c =
       page = l.invariant.1 ∙ ap (λ (m : ℕ). sets a.page.now a.at (take m a.line.now)) all;
       short = omega arith;
     }
-
-pub loop-i-smaller : goal.loop-i-smaller
-loop-i-smaller c = omega arith

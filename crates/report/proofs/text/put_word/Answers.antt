@@ -10,6 +10,3 @@ loop-i-preserved c = (omega arith, one_more_stored _ _ _ _ _ c.loop-i.invariant.
 
 pub returns : goal.returns
 returns c = let l : length c.args.word.now ≤ c.loop-i.i = omega arith in record { place = omega arith; line = all_stored _ _ _ _ _ c.loop-i.invariant.1 l; room = omega arith }
-
-pub loop-i-smaller : goal.loop-i-smaller
-loop-i-smaller c = omega arith

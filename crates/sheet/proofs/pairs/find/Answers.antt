@@ -14,18 +14,3 @@ loop-place-preserved c = let l = c.loop-place in seek_next _ _ _ _ l.invariant c
 
 pub returns : goal.returns
 returns c = seek_over _ _ _ _ c.loop-place.invariant c.loop-place-test.false
-
-pub overflow_add-wanted : goal.overflow_add-wanted
-overflow_add-wanted c = omega arith
-
-pub offset_bounds-lowest-place : goal.offset_bounds-lowest-place
-offset_bounds-lowest-place c = omega arith
-
-pub bounds-lowest-place : goal.bounds-lowest-place
-bounds-lowest-place c = omega arith
-
-pub overflow_add-place : goal.overflow_add-place
-overflow_add-place c = omega arith
-
-pub loop-place-smaller : goal.loop-place-smaller
-loop-place-smaller c = omega arith

@@ -89,18 +89,3 @@ pub returns : goal.returns
 unfolding keeps
 returns c =
     answers _ _ _ c.requires true (rw (drop_of_length-le _ c.loop-i-test.false) at c.loop-i.invariant.3)
-
-pub bounds-trace-i : goal.bounds-trace-i
-bounds-trace-i c = omega arith
-
-pub carried-missing-requires : goal.carried-missing-requires
-carried-missing-requires c = omega arith
-
-pub next_place-place-requires : goal.next_place-place-requires
-next_place-place-requires c = omega arith
-
-pub overflow_add-i : goal.overflow_add-i
-overflow_add-i c = omega arith
-
-pub loop-i-smaller : goal.loop-i-smaller
-loop-i-smaller c = omega arith

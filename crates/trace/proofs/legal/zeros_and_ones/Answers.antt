@@ -32,12 +32,3 @@ loop-i-preserved c =
 pub returns : goal.returns
 unfolding zeros_and_ones
 returns c = rw (drop_of_length-le _ c.loop-i-test.false) at c.loop-i.invariant.1
-
-pub bounds-trace-i : goal.bounds-trace-i
-bounds-trace-i c = omega arith
-
-pub overflow_add-i : goal.overflow_add-i
-overflow_add-i c = omega arith
-
-pub loop-i-smaller : goal.loop-i-smaller
-loop-i-smaller c = omega arith

@@ -1,7 +1,6 @@
 -- The loop's invariant: the tasks read so far, and those still to be read from the place reached, are all the tasks.
 use native.Mathlib.Omega.{arith}
 use Rattle.transfer.specs.Reading.{task_then}
-use borrow.Author.Rules.{rules}
 use Rattle.transfer.proofs.ReadLaws.{taking_none, taking_more, taken_short, taken}
 use Rattle.transfer.proofs.RecordHere.{room_here}
 use Rattle.transfer.proofs.read.read_tasks.Goals as goal
@@ -14,9 +13,6 @@ loop-left-init c = let a = c.args in taking_none a.part.now a.start c.no_tasks-t
 
 pub record_of-record-requires : goal.record_of-record-requires
 record_of-record-requires c = tt
-
-pub enum_told-1 : goal.enum_told-1
-enum_told-1 c = search rules
 
 -- any other record ends the tasks
 pub returns-in-ComponentRecord : goal.returns-in-ComponentRecord
@@ -60,15 +56,3 @@ loop-left-preserved c = let a = c.args in
 pub returns : goal.returns
 returns c = let a = c.args in let l = c.loop-left in
     taken a.part.now a.start l.table l.place l.left l.invariant c.loop-left-test.false
-
-pub slice_bounds-record_of-count : goal.slice_bounds-record_of-count
-slice_bounds-record_of-count c = omega arith
-
-pub slice_bounds-record_of-start : goal.slice_bounds-record_of-start
-slice_bounds-record_of-start c = omega arith
-
-pub overflow_sub-left : goal.overflow_sub-left
-overflow_sub-left c = omega arith
-
-pub loop-left-smaller : goal.loop-left-smaller
-loop-left-smaller c = omega arith

@@ -36,18 +36,3 @@ unfolding tasks_of
 returns c = let a = c.args.table in
     let n = ap length (no_bytes a.count a.tasks (room (goal.at.returns c).Start) c.loop-i.i c.loop-i-test.false) in
     omega (arith, c.loop-i.invariant)
-
-pub loop-i-init : goal.loop-i-init
-loop-i-init c = omega arith
-
-pub offset_bounds-tasks-i : goal.offset_bounds-tasks-i
-offset_bounds-tasks-i c = omega arith
-
-pub bounds-tasks-i : goal.bounds-tasks-i
-bounds-tasks-i c = omega arith
-
-pub overflow_add-i : goal.overflow_add-i
-overflow_add-i c = omega arith
-
-pub loop-i-smaller : goal.loop-i-smaller
-loop-i-smaller c = omega arith

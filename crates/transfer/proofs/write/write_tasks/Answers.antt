@@ -5,7 +5,6 @@ use Rattle.transfer.proofs.StoreLaws.{storing_none, storing_more, storing_all}
 use Rattle.budget.proofs.Places.{in_array}
 use Rattle.budget.specs.Task.{tasks_of}
 use borrow.Author.Rules.{rules}
-use native.Mathlib.Omega.{arith}
 use Rattle.transfer.proofs.write.write_tasks.Goals as goal
 use Rattle.transfer.proofs.write.write_tasks.Goals.{Start}
 
@@ -31,15 +30,3 @@ unfolding tasks_of
 returns c = let a = c.args in let l = c.loop-i in
     let all = storing_all a.buffer.now a.at a.table.count a.table.tasks (room (goal.at.returns c).Start) l.buffer l.place l.i l.invariant c.loop-i-test.false in
     record { place = all.0; bytes = all.1 }
-
-pub offset_bounds-tasks-i : goal.offset_bounds-tasks-i
-offset_bounds-tasks-i c = omega arith
-
-pub bounds-tasks-i : goal.bounds-tasks-i
-bounds-tasks-i c = omega arith
-
-pub overflow_add-i : goal.overflow_add-i
-overflow_add-i c = omega arith
-
-pub loop-i-smaller : goal.loop-i-smaller
-loop-i-smaller c = omega arith

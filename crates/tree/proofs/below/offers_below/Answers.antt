@@ -35,9 +35,3 @@ returns c =
     let e : l.k ≡ c.args.place = omega arith in
     let h = l.invariant.1.held in
     rw e at h
-
-pub slice_bounds-offers-end : goal.slice_bounds-offers-end
-slice_bounds-offers-end c = omega arith
-
-pub note-requires : goal.note-requires
-note-requires c = omega arith

@@ -1,5 +1,0 @@
--- Each field is the value that the definition names.
-use Rattle.record.proofs.layout.pair_of.Goals as goal
-
-pub returns : goal.returns
-returns c = cc

@@ -1,5 +1,0 @@
--- The component beside is the one that stands for none.
-use Rattle.tree.proofs.workload.waiting.Goals as goal
-
-pub returns : goal.returns
-returns c = rw c.refused-component.ensures
