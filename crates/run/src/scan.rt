@@ -11,7 +11,6 @@ ghost use Rattle.run.specs.Walk.{late_task};
 pub const NO_TASK: u32 = 64;
 
 // Of job i and the first of those behind it, the one to serve in slot n; the count of jobs stands for none.
-#[tactic(auto, unfolding(crate::specs::inner::Scan::takes_over))]
 fn first_of(
     due: &[u32],
     tasks: &[u32],
