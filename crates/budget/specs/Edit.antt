@@ -1,5 +1,5 @@
 -- Adding and removing a task (RULES 11, and 13 for what is refused first).
-use Rattle.std.specs.Prelude.{ℕ, suc, cond, Result, Ok, Err, ◌&&◌, List, [], ◌∷◌, ◌++◌, take, drop, leb, ltb, eqb}
+use Rattle.std.specs.Prelude.{ℕ, suc, cond, Result, Ok, Err, ◌≡◌, ◌&&◌, List, [], ◌∷◌, ◌++◌, take, drop, leb, ltb, eqb}
 use Rattle.budget.specs.declared.component.Component.{Component}
 use Rattle.budget.specs.declared.task.Task.{Task}
 use Rattle.budget.specs.declared.refusal.Refusal.{Refusal}
@@ -42,6 +42,10 @@ pub record Edited : Type 0 where
 abbrev pub edited_in : Result Component Refusal → Edited
 edited_in (Ok c) = record { refusal = refusal.none; component = c }
 edited_in (Err r) = record { refusal = refusal.number_of r; component = refused }
+
+-- no two answers of an edit have the same number and component
+abbrev pub EditsApart : Type 0
+EditsApart = (a b : Result Component Refusal) → edited_in a ≡ edited_in b → a ≡ b
 
 -- what an edit answers: the component with its new tasks and their common period, or the refusal and the component that stands for none
 unfoldable pub edited : ℕ → Component → List Task → Edited
