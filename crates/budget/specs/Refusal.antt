@@ -1,5 +1,5 @@
 -- The refusal numbers by name (RULES 12), and how an answer is read as such a number. 0 stands for no refusal.
-use Rattle.std.specs.Prelude.{ℕ, Result, Ok, Err}
+use Rattle.std.specs.Prelude.{ℕ, Result, Ok, Err, ◌≡◌}
 use Rattle.budget.specs.declared.refusal.Refusal.{Refusal}
 use Rattle.budget.specs.declared.refusal.Refusal.TheVariants as Refusal
 
@@ -98,3 +98,7 @@ number_of Refusal.Common = common
 abbrev pub number_in : {A : Type 0} → Result A Refusal → ℕ
 number_in (Ok a) = none
 number_in (Err r) = number_of r
+
+-- a number says which refusal it is: no two have the same
+abbrev pub NumbersApart : Type 0
+NumbersApart = (a b : Refusal) → number_of a ≡ number_of b → a ≡ b
