@@ -7,7 +7,7 @@ use mathlib.Core.List.{List}
 use lib.Dec.{leb, eqb}
 use borrow.Author.Tests.{le-leb, lt-leb, leb-true, leb-false, eq-eqb, ne_eqb}
 use native.Mathlib.Omega.{arith}
-use Rattle.std.specs.Prelude.{Option, Some, None}
+use Rattle.std.specs.Prelude.{Option, Some, None, Ok}
 use Rattle.std.proofs.lemmas.Option.{cond_some, none-some}
 use Rattle.budget.specs.declared.component.Capacity.{Capacity}
 use Rattle.budget.specs.declared.component.Capacity.TheVariants.{Stated, Asked}
@@ -27,8 +27,9 @@ use Rattle.judge.specs.declared.margin.Tight.{Tight}
 use Rattle.judge.specs.numbers.Answer.{Answer}
 use Rattle.judge.specs.numbers.Judged as Judged
 use Rattle.judge.specs.numbers.Margined.{Margined}
+use Rattle.judge.specs.numbers.Smallest as Smallest
 use Rattle.judge.specs.Answer.{answer_at, judge_answer, judgement_in}
-use Rattle.judge.specs.Capacity.{smallest_capacity, capacity_of}
+use Rattle.judge.specs.Capacity.{smallest_capacity, smallest_in, capacity_answer, capacity_of}
 use Rattle.judge.specs.Judged.{judged_at, verdict_answer}
 use Rattle.judge.specs.Margin.{margin_at, margin_in, margin_on, margined_at, margin_answer, tight_instant}
 use Rattle.judge.specs.Verdict.{accepts, first_short, verdict_on}
@@ -114,3 +115,17 @@ module _ (k : Component) where
   pub none_answer : None ≡ capacity_found k → judgement_in (record { capacity = record { 0 = 0 }; verdict = Verdict.None; margin = None }) ≡ answer_at k Asked
   unfolding judged_at margined_at
   none_answer e = rw (lt-leb (capacity_of k) k.deadline.0 (none_is e)) refl
+
+  -- the search's answer: refused, or what it finds
+  pub refused_capacity : (n : ℕ) → component_refusal k ≡ n → (n ≡ refusal.none → ⊥) → Smallest.Refused n ≡ capacity_answer k
+  unfolding capacity_answer
+  refused_capacity n e h = rw (e, ne_eqb n 0 h) refl
+
+  pub given_capacity : (r : Option Units) → component_refusal k ≡ refusal.none → r ≡ capacity_found k → smallest_in (Ok r) ≡ capacity_answer k
+  unfolding capacity_answer capacity_found
+  given_capacity r e is =
+      rw (is, eq-eqb (component_refusal k) 0 e) (pick (leb (capacity_of k) k.deadline.0) (record { 0 = capacity_of k }))
+    where
+      pick : (b : Bool) (u : Units) → smallest_in (Ok (cond b (Some u) None)) ≡ cond b (Smallest.Found u) Smallest.None
+      pick true u = refl
+      pick false u = refl

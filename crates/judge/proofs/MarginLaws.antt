@@ -1,25 +1,24 @@
 -- The tightest step instant: what trying one instant more does, that nothing changes between step instants, and that what is found is the tightest.
 use Prim.Native.Nat.{ℕ, zero, suc, ◌+◌, ◌*◌, ◌≤◌, ◌<◌}
-use mathlib.Core.Path.{◌≡◌, refl, sym, ◌∙◌, ap, ap₂, subst}
+use mathlib.Core.Path.{◌≡◌, refl, sym, ◌∙◌, ap, subst}
 use mathlib.Core.Logic.{◌⊎◌, inl, inr, ⊎_elim}
 use mathlib.Core.Bool.{Bool, true, false, cond}
 use mathlib.Core.List.{List}
 use lib.Dec.{ltb, eqb}
-use lib.ListN.{length, length-take}
-use borrow.Author.Tests.{le-ltb, ltb-true, ltb-false, eqb-true, eqb-false}
+use lib.ListN.{length}
+use borrow.Author.Tests.{le-ltb, ne_eqb, ltb-true, ltb-false, eqb-true, eqb-false}
 use native.Mathlib.Decide.{dec_le}
 use native.Mathlib.Nat.{not-suc-le-zero, le_of_eq, le_of_lt, le_of_suc-le-suc, le_trans, mul-le-mul, eq-or-lt_of_le, not-le_of_lt}
 use native.Mathlib.Omega.{arith}
 use Rattle.std.specs.Prelude.{Option, Some, None}
 use Rattle.budget.specs.declared.interface.Interface.{Interface}
-use Rattle.budget.specs.declared.task.Table.{Table}
 use Rattle.budget.specs.declared.task.Task.{Task}
 use Rattle.budget.specs.Demand.{demand}
 use Rattle.budget.specs.Limits.{limit, most_tasks}
 use Rattle.budget.specs.Supply.{supply}
-use Rattle.budget.specs.Task.{tasks_of, valid_tasks}
-use Rattle.budget.proofs.DemandLaws.{demand_zero, demand_bound}
-use Rattle.budget.proofs.SupplyLaws.{supply_zero, supply_le_time}
+use Rattle.budget.specs.Task.{valid_tasks}
+use Rattle.budget.proofs.DemandLaws.{demand_bound}
+use Rattle.budget.proofs.SupplyLaws.{supply_le_time}
 use Rattle.budget.proofs.Valid.{ValidInterface, valid_interface_lem}
 use Rattle.judge.specs.declared.margin.Tight.{Tight}
 use Rattle.judge.specs.Margin.{Step, Tightest, tight_at, tried, tight_instant}
@@ -199,10 +198,6 @@ module _ (ks : List Task) (i : Interface) where
   best_small v w few n at best h b =
       subst SmallBest (sym (b.tight b.last (omega arith) b.passed)) (tight_on_small v w few b.last (omega (arith, b.reached)))
 
--- and so are those of the tightest instant of a table's tasks
-pub tight_small : (table : Table) (i : Interface) (n : ℕ) (best : Option Tight) → Scannable table i n → best ≡ tight_on (tasks_of table) i n → SmallBest best
-unfolding tasks_of
-tight_small table i n best s is =
-    let ks = tasks_of table in
-    let few : length ks ≤ most_tasks = omega (arith, length-take table.count table.tasks, s.few) in
-    subst SmallBest (sym is) (tight_on_small ks i s.tasks (valid_interface_lem i s.interface) few n s.bounded)
+-- and so are those of the tightest instant of a scan
+pub tight_small : (ks : List Task) (i : Interface) (n : ℕ) (best : Option Tight) → Scannable ks i n → best ≡ tight_on ks i n → SmallBest best
+tight_small ks i n best s is = subst SmallBest (sym is) (tight_on_small ks i s.tasks (valid_interface_lem i s.interface) s.few n s.bounded)

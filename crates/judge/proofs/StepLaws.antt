@@ -5,25 +5,23 @@ use mathlib.Core.Logic.{◌⊎◌, inl, inr, ⊎_elim}
 use mathlib.Core.Bool.{true, cond}
 use mathlib.Core.List.{List, [], ◌∷◌}
 use lib.Dec.{eqb}
-use lib.ListN.{length, get_or, take, length-take}
-use lib.Seq.{take-suc, take-length, get_or-take}
+use lib.ListN.{length, get_or, take}
+use lib.Seq.{take-suc, take-length, length-take-le, get_or-take}
 use borrow.Author.Tests.{eq-eqb, ne_eqb}
 use native.Mathlib.Decide.{ℕ_discrete}
 use native.Mathlib.Nat.{add-zero, suc-mul, le_trans, le_of_eq, mul-le-mul, lt_of_lt_of_le}
 use native.Mathlib.Numerals.{lt_of_le_of_ne}
 use native.Mathlib.Omega.{arith}
-use Rattle.budget.specs.declared.task.Table.{Table}
 use Rattle.budget.specs.declared.task.Task.{Task}
 use Rattle.budget.specs.Demand.{demand, jobs_by}
 use Rattle.budget.specs.Limits.{limit, most_tasks}
-use Rattle.budget.specs.Task.{T, C, no_task, span, valid_tasks, tasks_of}
+use Rattle.budget.specs.Task.{T, C, no_task, span, valid_tasks}
 use Rattle.budget.proofs.DemandLaws.{jobs_next_after, jobs_same_until, jobs_at_next, jobs_zero, demand_append, demand_zero, demand_bound}
-use Rattle.budget.proofs.Places.{places}
 use Rattle.budget.proofs.Valid.{ValidTask, valid_at}
 use Rattle.judge.specs.declared.steps.Row.{Row}
 use Rattle.judge.specs.declared.steps.Step.{Step}
 use Rattle.judge.specs.declared.steps.Steps.{Steps}
-use Rattle.judge.specs.inner.Steps.{Begun, Passed, Steppable, Stepped, due_work, first_row, no_row, passed, rows_of}
+use Rattle.judge.specs.inner.Steps.{Begun, Steppable, Stepped, due_work, no_row, passed, rows_of}
 
 -- the first deadline of a task after an instant
 abbrev pub next_deadline : Task → ℕ → ℕ
@@ -205,25 +203,19 @@ module _ (ks : List Task) (v : valid_tasks ks ≡ true) where
             omega (arith, q.2, ap (λ (x : Row). x.due) (passed_on q.0 g), jobs_next_after (get_or ks q.0 no_task) (valid_at ks v q.0 g) (suc c.before)))
             w.passed.least.attained
 
--- a walk over a table's tasks begins at instant 1 with no demand before it
-pub carried_start : (table : Table) → table.count ≤ most_tasks → valid_tasks (tasks_of table) ≡ true → length table.tasks ≡ most_tasks → (s : Steps) → Begun table s → Carried (tasks_of table) s
-unfolding tasks_of
-carried_start table few v long s b =
-    let ks = take table.count table.tasks in
-    let counted : length ks ≡ table.count = places table.count table.tasks (omega arith) in
+-- a walk over valid tasks begins at instant 1 with no demand before it
+pub carried_start : (ks : List Task) → length ks ≤ most_tasks → valid_tasks ks ≡ true → (s : Steps) → Begun ks s → Carried ks s
+carried_start ks few v s b =
     record {
       before = 0;
       is = b.at;
-      count = b.count ∙ sym counted;
-      whole = places s.count s.rows (omega (arith, b.count, b.long));
+      count = b.count;
+      whole = length-take-le s.count s.rows (omega (arith, b.count, b.long));
       rows = λ j l.
-          let h : j < table.count = omega (arith, l, counted) in
-          let g : j < s.count = omega (arith, b.count) in
           let k = get_or ks j no_task in
           let none : next_deadline k 0 ≡ span k = omega (arith, ap (λ (x : ℕ). x * T k) (jobs_zero k (valid_at ks v j l))) in
-          get_or-take s.count s.rows j no_row g
-          ∙ b.rows j h
-          ∙ ap first_row (sym (get_or-take table.count table.tasks j no_task h))
+          get_or-take s.count s.rows j no_row (omega (arith, b.count))
+          ∙ b.rows j l
           ∙ ap (λ (x : ℕ). record { period = T k; work = C k; due = x }) (sym none);
       known = b.demand ∙ sym (demand_zero ks v);
     }

@@ -4,15 +4,18 @@ use mathlib.Core.Path.{◌≡◌, sym, ◌∙◌, ap, subst}
 use mathlib.Core.Bool.{true, cond}
 use lib.Dec.{eqb}
 use borrow.Author.Tests.{eq-eqb, ne_eqb}
+use lib.ListN.{length, length-take}
 use native.Mathlib.Omega.{arith}
-use Rattle.budget.specs.declared.common_period.CommonPeriod.{CommonPeriod}
+use Rattle.budget.specs.Answered.{CommonPeriod}
 use Rattle.budget.specs.declared.component.Capacity.{Capacity}
 use Rattle.budget.specs.declared.component.Capacity.TheVariants.{Stated}
 use Rattle.budget.specs.declared.component.Component.{Component}
 use Rattle.budget.specs.declared.quantity.Units.{Units}
 use Rattle.budget.specs.Component.{units_of, interface_of, interface_at, common_period_of, component_refusal, common_period_answer}
 use Rattle.budget.specs.Interface.{valid_interface}
+use Rattle.budget.specs.Limits.{most_tasks}
 use Rattle.budget.specs.Refusal as refusal
+use Rattle.budget.specs.Task.{tasks_of}
 use Rattle.budget.proofs.Ranges.{unrefused}
 use Rattle.budget.proofs.Valid.{valid_interface_lem}
 use Rattle.judge.proofs.CapacityLaws.{capacity_valid}
@@ -30,10 +33,14 @@ module _ (c : Component) where
   unfolding interface_of
   stated_fits e u is = subst (λ (a : Capacity). units_of a ≤ c.deadline.0) is (valid_interface_lem (interface_of c) (unrefused c e).0.interface).fits
 
-  pub scannable : (n : ℕ) → Whole c n → (q : ℕ) → q ≤ c.deadline.0 → Scannable c.table (interface_at c q) n
+  pub few : component_refusal c ≡ refusal.none → length (tasks_of c.table) ≤ most_tasks
+  unfolding tasks_of
+  few e = omega (arith, length-take c.table.count c.table.tasks, (unrefused c e).0.count)
+
+  pub scannable : (n : ℕ) → Whole c n → (q : ℕ) → q ≤ c.deadline.0 → Scannable (tasks_of c.table) (interface_at c q) n
   scannable n w q h =
       let v = unrefused c w.passes in
-      record { few = v.0.count; tasks = v.0.tasks; interface = in_range_at w.passes q h; bounded = omega (arith, v.1, w.is) }
+      record { few = few w.passes; tasks = v.0.tasks; interface = in_range_at w.passes q h; bounded = omega (arith, v.1, w.is) }
 
   module _ (r : CommonPeriod) (is : r ≡ common_period_answer c) where
     pub refused : component_refusal c ≡ r.refusal

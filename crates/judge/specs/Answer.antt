@@ -1,7 +1,9 @@
 -- What judging a component answers in a single call (RULES 7, 8, 11): the verdict and the margin, each as it is defined by itself.
-use Rattle.std.specs.Prelude.{ℕ, Result, Ok, Err}
+use Rattle.std.specs.Prelude.{Result, Ok, Err}
 use Rattle.budget.specs.declared.component.Capacity.{Capacity}
 use Rattle.budget.specs.declared.component.Component.{Component}
+use Rattle.budget.specs.declared.refusal.Refusal.{Refusal}
+use Rattle.budget.specs.Refusal.{number_of}
 use Rattle.judge.specs.numbers.Answer.{Answer}
 use Rattle.judge.specs.numbers.Judged as Judged
 use Rattle.judge.specs.numbers.Margined as Margined
@@ -22,6 +24,6 @@ abbrev pub judgement_in : Judgement → Answer
 judgement_in j = record { verdict = Judged.Answered j.capacity j.verdict; margin = margin_in j.margin }
 
 -- an answer in these numbers: a judgement, or both parts refused
-abbrev pub answer_in : Result Judgement ℕ → Answer
+abbrev pub answer_in : Result Judgement Refusal → Answer
 answer_in (Ok j) = judgement_in j
-answer_in (Err r) = record { verdict = Judged.Refused r; margin = Margined.Refused r }
+answer_in (Err r) = record { verdict = Judged.Refused (number_of r); margin = Margined.Refused (number_of r) }

@@ -2,6 +2,7 @@
 use Rattle.std.specs.Prelude.{ℕ, suc, cond, List, Option, Some, None, Result, Ok, Err, leb, eqb}
 use Rattle.budget.specs.declared.component.Component.{Component}
 use Rattle.budget.specs.declared.quantity.Units.{Units}
+use Rattle.budget.specs.declared.refusal.Refusal.{Refusal}
 use Rattle.budget.specs.declared.task.Task.{Task}
 use Rattle.budget.specs.Component.{common_period_of, component_refusal}
 use Rattle.budget.specs.Interface.{interface}
@@ -28,7 +29,7 @@ capacity_answer c =
     (Variant.Refused (component_refusal c))
 
 -- an answer in these numbers
-abbrev pub smallest_in : Result (Option Units) ℕ → Smallest
+abbrev pub smallest_in : Result (Option Units) Refusal → Smallest
 smallest_in (Ok (Some u)) = Variant.Found u
 smallest_in (Ok None) = Variant.None
-smallest_in (Err r) = Variant.Refused r
+smallest_in (Err r) = Variant.Refused (refusal.number_of r)

@@ -2,7 +2,7 @@
 use budget::quantity::{Time, Units};
 
 // The verdict: accepted, short with the first short instant, or none where a capacity was asked and there is none.
-#[derive(Clone, Copy)]
+#[derive(Clone, Copy, PartialEq, Eq)]
 pub enum Verdict {
     Accepted,
     Short(Time),
@@ -10,14 +10,14 @@ pub enum Verdict {
 }
 
 // The least margin and the first step instant that has it.
-#[derive(Clone, Copy)]
+#[derive(Clone, Copy, PartialEq, Eq)]
 pub struct Margin {
     pub units: i32,
     pub at: Time,
 }
 
 // What judging a component answers: the capacity stated or found (0 for none), the verdict, and the margin, which a component without tasks or capacity lacks.
-#[derive(Clone, Copy)]
+#[derive(Clone, Copy, PartialEq, Eq)]
 pub struct Judgement {
     pub capacity: Units,
     pub verdict: Verdict,

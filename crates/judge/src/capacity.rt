@@ -1,6 +1,5 @@
 // The smallest capacity that is accepted for a component's period, deadline and tasks (RULES 7).
 ghost use Rattle.std.specs.Prelude.{◌≡◌};
-ghost use Rattle.budget.specs.Component.{interface_at};
 ghost use Rattle.judge.specs.Capacity.{capacity_answer, smallest_in};
 ghost use Rattle.judge.specs.inner.Raise.{Raised};
 ghost use Rattle.judge.specs.inner.Scan.{Supplied};
@@ -9,21 +8,10 @@ ghost use Rattle.judge.specs.inner.Whole.{Whole, capacity_found};
 use crate::steps::{Step, Steps};
 use crate::supplied::units_at;
 use budget::common_period::common_period;
-use budget::component::Component;
+use budget::component::{Component, interface_at};
 use budget::interface::Interface;
 use budget::quantity::{Time, Units};
-use budget::refusal;
-
-// A component's interface at a capacity.
-pub(crate) fn interface_at(component: Component, capacity: Units) -> Interface
-    ensures { result ≡ interface_at component capacity.0 }
-{
-    Interface {
-        period: component.period,
-        capacity,
-        deadline: component.deadline,
-    }
-}
+use budget::refusal::Refusal;
 
 // The smallest capacity from the interface's on that supplies this demand at this instant. Supply grows with the capacity, so halving finds it.
 fn raised(interface: Interface, step: Step) -> Option<Units>
@@ -40,7 +28,14 @@ fn raised(interface: Interface, step: Step) -> Option<Units>
     while low < high {
         let middle = low + (high - low) / 2;
         let capacity = Units(middle);
-        if units_at(Interface { capacity, ..interface }, step.at) < step.demand {
+        if units_at(
+            Interface {
+                capacity,
+                ..interface
+            },
+            step.at,
+        ) < step.demand
+        {
             low = middle + 1;
         } else {
             high = middle;
@@ -58,7 +53,7 @@ pub(crate) fn least_capacity(component: Component, length: Time) -> Option<Units
     requires { Whole component length.0 }
     ensures { result ≡ capacity_found component }
 {
-    let mut steps = Steps::new(component.table);
+    let mut steps = Steps::new(component.table.tasks());
     let mut capacity = Units(0);
     let found = 'instants: loop {
         if length.0 < steps.at {
@@ -74,12 +69,9 @@ pub(crate) fn least_capacity(component: Component, length: Time) -> Option<Units
 }
 
 // The smallest capacity from 0 to the deadline that is accepted for the component's period, deadline and tasks, whatever capacity it states.
-pub fn smallest_capacity(component: Component) -> Result<Option<Units>, u16>
+pub fn smallest_capacity(component: Component) -> Result<Option<Units>, Refusal>
     ensures { smallest_in result ≡ capacity_answer component }
 {
-    let whole = common_period(component);
-    if whole.refusal != refusal::NONE {
-        return Err(whole.refusal);
-    }
-    Ok(least_capacity(component, whole.length))
+    let length = common_period(component)?;
+    Ok(least_capacity(component, length))
 }

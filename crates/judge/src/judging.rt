@@ -4,14 +4,14 @@ ghost use Rattle.judge.specs.Answer.{answer_at, answer_in, judge_answer, judgeme
 ghost use Rattle.judge.specs.inner.Whole.{Whole};
 
 use crate::answer::{Judgement, Verdict};
-use crate::capacity::{interface_at, least_capacity};
+use crate::capacity::least_capacity;
 use crate::margin::margin_from;
 use crate::scan::scan;
 use crate::verdict::verdict_from;
 use budget::common_period::common_period;
-use budget::component::{Capacity, Component};
+use budget::component::{Capacity, Component, interface_at};
 use budget::quantity::{Time, Units};
-use budget::refusal;
+use budget::refusal::Refusal;
 
 // The answer at a capacity: one scan up to L.
 fn at_capacity(component: Component, capacity: Units, length: Time) -> Judgement
@@ -19,7 +19,8 @@ fn at_capacity(component: Component, capacity: Units, length: Time) -> Judgement
     requires fits { capacity.0 ≤ component.deadline.0 }
     ensures { judgement_in result ≡ answer_at component (Capacity.Stated capacity) }
 {
-    let found = scan(component.table, interface_at(component, capacity), length);
+    let interface = interface_at(component, capacity);
+    let found = scan(component.table.tasks(), interface, length);
     Judgement {
         capacity,
         verdict: verdict_from(found.short),
@@ -54,12 +55,9 @@ pub(crate) fn judge_over(component: Component, length: Time) -> Judgement
 }
 
 // Verdict and margin of a component, at its capacity stated or found.
-pub fn judge(component: Component) -> Result<Judgement, u16>
+pub fn judge(component: Component) -> Result<Judgement, Refusal>
     ensures { answer_in result ≡ judge_answer component }
 {
-    let whole = common_period(component);
-    if whole.refusal != refusal::NONE {
-        return Err(whole.refusal);
-    }
-    Ok(judge_over(component, whole.length))
+    let length = common_period(component)?;
+    Ok(judge_over(component, length))
 }

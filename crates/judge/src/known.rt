@@ -11,26 +11,20 @@ use crate::judging::judge_over;
 use budget::component::Component;
 use budget::known::common_period;
 use budget::quantity::Units;
-use budget::refusal;
+use budget::refusal::Refusal;
 
-pub fn judge(component: Component) -> Result<Judgement, u16>
+pub fn judge(component: Component) -> Result<Judgement, Refusal>
     requires { Right component }
     ensures { answer_in result ≡ judge_answer component }
 {
-    let whole = common_period(component);
-    if whole.refusal != refusal::NONE {
-        return Err(whole.refusal);
-    }
-    Ok(judge_over(component, whole.length))
+    let length = common_period(component)?;
+    Ok(judge_over(component, length))
 }
 
-pub fn smallest_capacity(component: Component) -> Result<Option<Units>, u16>
+pub fn smallest_capacity(component: Component) -> Result<Option<Units>, Refusal>
     requires { Right component }
     ensures { smallest_in result ≡ capacity_answer component }
 {
-    let whole = common_period(component);
-    if whole.refusal != refusal::NONE {
-        return Err(whole.refusal);
-    }
-    Ok(least_capacity(component, whole.length))
+    let length = common_period(component)?;
+    Ok(least_capacity(component, length))
 }

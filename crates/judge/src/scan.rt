@@ -1,7 +1,6 @@
 // The one scan of the instants: what the verdict and the margin at a capacity are read from (RULES 7, 8). Between step instants demand stands still and
 // supply never falls, so only step instants are tried.
 ghost use Rattle.std.specs.Prelude.{◌≡◌};
-ghost use Rattle.budget.specs.Task.{tasks_of};
 ghost use Rattle.judge.specs.inner.Scan.{Scannable, Triable};
 ghost use Rattle.judge.specs.inner.Tried.{short_on, short_tried, tight_on, tight_tried};
 
@@ -11,7 +10,7 @@ use crate::supplied::units_at;
 use crate::verdict::sooner_short;
 use budget::interface::Interface;
 use budget::quantity::Time;
-use budget::task::Table;
+use budget::task::Task;
 
 // What a scan has found: the first short instant and the tightest step instant.
 #[derive(Clone, Copy)]
@@ -39,12 +38,12 @@ fn try_instant(found: Scanned, interface: Interface, step: Step) -> Scanned
 }
 
 // The first short instant and the tightest step instant from 1 to `length`.
-pub(crate) fn scan(table: Table, interface: Interface, length: Time) -> Scanned
-    requires { Scannable table interface length.0 }
-    ensures short { result.short ≡ short_on (tasks_of table) interface length.0 }
-    ensures tight { result.tight ≡ tight_on (tasks_of table) interface length.0 }
+pub(crate) fn scan(tasks: &[Task], interface: Interface, length: Time) -> Scanned
+    requires { Scannable tasks.now interface length.0 }
+    ensures short { result.short ≡ short_on tasks.now interface length.0 }
+    ensures tight { result.tight ≡ tight_on tasks.now interface length.0 }
 {
-    let mut steps = Steps::new(table);
+    let mut steps = Steps::new(tasks);
     let mut found = Scanned {
         short: None,
         tight: None,

@@ -1,10 +1,10 @@
 // The step instants of a task table, where demand rises: from one to the next without a division, each task's next deadline carried beside it.
-ghost use Rattle.std.specs.Prelude.{◌≡◌, ◌≤◌};
+ghost use Rattle.std.specs.Prelude.{◌≡◌, ◌≤◌, length};
 ghost use Rattle.budget.specs.Limits.{most_tasks};
 ghost use Rattle.judge.specs.inner.Steps.{Begun, Stepped, Steppable, first_row};
 
 use budget::quantity::Time;
-use budget::task::{Table, Task, span};
+use budget::task::{Task, span};
 
 // What a walk carries of a task: its period, its work and its next deadline.
 #[derive(Clone, Copy)]
@@ -22,7 +22,7 @@ pub struct Step {
     pub demand: u32,
 }
 
-// A walk over the step instants of a table: the tasks' rows, the instant to be passed next and the demand before it.
+// A walk over the step instants of some tasks: a row for each, the instant to be passed next and the demand before it.
 #[derive(Drop)]
 pub struct Steps {
     pub count: usize,
@@ -45,21 +45,21 @@ impl Row {
 }
 
 impl Steps {
-    // A walk over the table's tasks from instant 1 on.
-    pub(crate) fn new(table: Table) -> Steps
-        requires { table.count ≤ most_tasks }
-        ensures { Begun table result }
+    // A walk over these tasks from instant 1 on.
+    pub(crate) fn new(tasks: &[Task]) -> Steps
+        requires { length tasks.now ≤ most_tasks }
+        ensures { Begun tasks.now result }
     {
         let mut rows = [Row {
             period: 0,
             work: 0,
             due: 0,
         }; 64];
-        for i in 0..table.count {
-            rows[i] = Row::first(table.tasks[i]);
+        for (i, task) in tasks.iter().enumerate() {
+            rows[i] = Row::first(*task);
         }
         Steps {
-            count: table.count,
+            count: tasks.len(),
             rows,
             at: 1,
             demand: 0,

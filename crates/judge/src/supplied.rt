@@ -12,5 +12,5 @@ pub(crate) fn units_at(interface: Interface, at: u32) -> u32
     requires { Supplied interface at }
     ensures { result ≡ Supply.supply interface at }
 {
-    supply(interface, Time(at)).units.0
+    supply(interface, Time(at)).unwrap().0
 }

@@ -1,16 +1,16 @@
 -- What a scan of the instants up to n, and the trial of one instant in it, are asked with: numbers in their ranges.
-use Rattle.std.specs.Prelude.{ℕ, ◌*◌, ◌≤◌, true, Option, Some, None, ◌≡◌}
+use Rattle.std.specs.Prelude.{ℕ, ◌*◌, ◌≤◌, true, List, length, Option, Some, None, ◌≡◌}
 use Rattle.budget.specs.declared.interface.Interface.{Interface}
-use Rattle.budget.specs.declared.task.Table.{Table}
+use Rattle.budget.specs.declared.task.Task.{Task}
 use Rattle.budget.specs.Interface.{valid_interface}
 use Rattle.budget.specs.Limits.{limit, most_tasks}
-use Rattle.budget.specs.Task.{tasks_of, valid_tasks}
+use Rattle.budget.specs.Task.{valid_tasks}
 use Rattle.judge.specs.declared.margin.Tight.{Tight}
 use Rattle.judge.specs.declared.steps.Step.{Step}
 
-pub record Scannable (table : Table) (i : Interface) (n : ℕ) : Type 0 where
-  pub few : table.count ≤ most_tasks
-  pub tasks : valid_tasks (tasks_of table) ≡ true
+pub record Scannable (ks : List Task) (i : Interface) (n : ℕ) : Type 0 where
+  pub few : length ks ≤ most_tasks
+  pub tasks : valid_tasks ks ≡ true
   pub interface : valid_interface i ≡ true
   pub bounded : n ≤ limit
 

@@ -1,6 +1,5 @@
 -- What passing one step instant does to a walk: to the rows that it carries, one for each task, and to the demand.
 use Rattle.std.specs.Prelude.{ℕ, zero, suc, ◌+◌, ◌*◌, ◌≤◌, ◌<◌, ◌≡◌, ◌⊎◌, cond, List, eqb, length, get_or, take}
-use Rattle.budget.specs.declared.task.Table.{Table}
 use Rattle.budget.specs.declared.task.Task.{Task}
 use Rattle.budget.specs.Limits.{limit, most_tasks}
 use Rattle.budget.specs.Task.{T, C, no_task, span}
@@ -20,11 +19,11 @@ first_row k = record { period = T k; work = C k; due = span k }
 abbrev pub rows_of : Steps → List Row
 rows_of s = take s.count s.rows
 
--- a walk over a table's tasks as it begins, at instant 1
-pub record Begun (table : Table) (s : Steps) : Type 0 where
-  pub count : s.count ≡ table.count
+-- a walk over these tasks as it begins, at instant 1
+pub record Begun (ks : List Task) (s : Steps) : Type 0 where
+  pub count : s.count ≡ length ks
   pub long : length s.rows ≡ most_tasks
-  pub rows : (j : ℕ) → j < table.count → get_or s.rows j no_row ≡ first_row (get_or table.tasks j no_task)
+  pub rows : (j : ℕ) → j < length ks → get_or s.rows j no_row ≡ first_row (get_or ks j no_task)
   pub at : s.at ≡ 1
   pub demand : s.demand ≡ 0
 

@@ -1,7 +1,6 @@
--- `judge::scan::scan` meets its contract. The loop's invariant: the walk is over the table's tasks, and what is found is the first short instant and the
+-- `judge::scan::scan` meets its contract. The loop's invariant: the walk is over the tasks, and what is found is the first short instant and the
 -- tightest step instant before its next one. The measure is what is left of the instants.
 use Prim.Native.Nat.{◌-◌, ◌+◌}
-use Rattle.budget.specs.Task.{tasks_of}
 use Rattle.judge.proofs.MarginLaws.{Best}
 use Rattle.judge.proofs.StepLaws.{Carried}
 use Rattle.judge.proofs.VerdictLaws.{Sought}
@@ -9,8 +8,7 @@ use Rattle.judge.proofs.scan.scan.Given as goal
 
 abbrev pub invariant-loop-steps : goal.invariant-loop-steps
 invariant-loop-steps l =
-    let ks = tasks_of l.table in
-    Carried ks l.steps × Sought ks l.interface l.length.0 l.steps.at l.found.short × Best ks l.interface l.length.0 l.steps.at l.found.tight
+    Carried l.tasks l.steps × Sought l.tasks l.interface l.length.0 l.steps.at l.found.short × Best l.tasks l.interface l.length.0 l.steps.at l.found.tight
 
 abbrev pub decreases-loop-steps : goal.decreases-loop-steps
 decreases-loop-steps l = l.length.0 + 1 - l.steps.at

@@ -8,4 +8,4 @@ use Rattle.judge.proofs.steps.Steps.new.Given as goal
 
 abbrev pub invariant-loop-i : goal.invariant-loop-i
 invariant-loop-i l =
-    (length l.rows ≡ 64) × ((j : ℕ) → j < l.i → get_or l.rows j no_row ≡ first_row (get_or l.table.tasks j no_task))
+    (length l.rows ≡ 64) × ((j : ℕ) → j < l.i → get_or l.rows j no_row ≡ first_row (get_or l.tasks j no_task))
