@@ -1,23 +1,16 @@
 // The trace question: whether a trace is legal (RULES 5).
 ghost use Rattle.std.specs.Prelude.{◌≡◌, true, cond, ◌&&◌, ◌↔◌, ◌+◌, ◌≤◌, ◌<◌, ltb, eqb};
 ghost use Rattle.budget.specs.Limits.{limit};
-ghost use Rattle.budget.specs.Refusal as refusals;
+ghost use Rattle.budget.specs.Refusal.{none, number_in};
 ghost use Rattle.trace.specs.Legal.{zeros_and_ones, Legal};
-ghost use Rattle.trace.specs.Answer.{trace_refusal, Answered};
+ghost use Rattle.trace.specs.Answer.{trace_refusal, Answered, legality_in};
 
 use budget::interface::{Interface, check_interface};
 use budget::quantity::Time;
-use budget::refusal;
+use budget::refusal::Refusal;
 
 // The most slots of a trace that is taken.
 pub const LONGEST: usize = 65_536;
-
-// The answer to the trace question; refused: not legal.
-#[derive(Clone, Copy)]
-pub struct Legality {
-    pub refusal: u16,
-    pub legal: bool,
-}
 
 // Every byte is 0 or 1.
 pub fn zeros_and_ones(trace: &[u8]) -> bool
@@ -27,24 +20,18 @@ pub fn zeros_and_ones(trace: &[u8]) -> bool
 }
 
 // The refusal of an interface, an offset and a trace.
-fn check_trace(interface: Interface, offset: u32, trace: &[u8]) -> u16
-    ensures { result ≡ trace_refusal interface offset trace.now }
+#[tactic(auto, unfolding(crate::specs::Answer::trace_refusal))]
+fn check_trace(interface: Interface, offset: u32, trace: &[u8]) -> Result<(), Refusal>
+    ensures { number_in result ≡ trace_refusal interface offset trace.now }
 {
-    let refused = check_interface(interface);
-    if refused != refusal::NONE {
-        return refused;
+    check_interface(interface)?;
+    if interface.period.0 <= offset {
+        return Err(Refusal::Range);
     }
-    let period = interface.period.0;
-    if period <= offset {
-        return refusal::RANGE;
+    if LONGEST < trace.len() || !zeros_and_ones(trace) {
+        return Err(Refusal::Trace);
     }
-    if LONGEST < trace.len() {
-        return refusal::TRACE;
-    }
-    if zeros_and_ones(trace) {
-        return refusal::NONE;
-    }
-    refusal::TRACE
+    Ok(())
 }
 
 // A slot's place in its period, and what the period lacks before it: its slots so far at places below the deadline that are not supplied.
@@ -84,7 +71,7 @@ impl Place {
 
 // No period of the trace lacks more than Δ − Θ of its slots at places below Δ. Slots outside the trace are never lacking.
 fn walk(interface: Interface, offset: u32, trace: &[u8]) -> bool
-    requires { trace_refusal interface offset trace.now ≡ refusals.none }
+    requires { trace_refusal interface offset trace.now ≡ none }
     ensures { (result ≡ true) ↔ Legal interface offset trace.now }
 {
     let deadline = interface.deadline.0;
@@ -104,19 +91,9 @@ fn walk(interface: Interface, offset: u32, trace: &[u8]) -> bool
 }
 
 // Is the trace a legal supply of the interface, its first slot at the place `offset` of a period?
-pub fn is_legal(interface: Interface, offset: Time, trace: &[u8]) -> Legality
-    ensures { Answered interface offset.0 trace.now result }
+pub fn is_legal(interface: Interface, offset: Time, trace: &[u8]) -> Result<bool, Refusal>
+    ensures { Answered interface offset.0 trace.now (legality_in result) }
 {
-    let at = offset.0;
-    let refused = check_trace(interface, at, trace);
-    if refused != refusal::NONE {
-        return Legality {
-            refusal: refused,
-            legal: false,
-        };
-    }
-    Legality {
-        refusal: refusal::NONE,
-        legal: walk(interface, at, trace),
-    }
+    check_trace(interface, offset.0, trace)?;
+    Ok(walk(interface, offset.0, trace))
 }
