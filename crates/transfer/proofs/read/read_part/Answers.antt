@@ -10,11 +10,11 @@ use Rattle.transfer.proofs.read.read_part.Goals as goal
 
 pub returns-in_default : goal.returns-in_default
 unfolding component_from
-returns-in_default c = c.refused.ensures ∙ ap (component_from c.args.part.now) c.in_default.ensures
+returns-in_default c = c.none_read.ensures ∙ ap (component_from c.args.part.now) c.in_default.ensures
 
 pub returns-in_default-record : goal.returns-in_default-record
 returns-in_default-record c =
-    c.refused-in_default-record.ensures ∙ (no_component_said c.args.part.now _ c.in_default-record.not-Component ∙ ap (component_from c.args.part.now) c.in-Ok.ensures)
+    c.none_read-in_default-record.ensures ∙ (no_component_said c.args.part.now _ c.in_default-record.not-Component ∙ ap (component_from c.args.part.now) c.in-Ok.ensures)
 
 pub read_tasks-requires : goal.read_tasks-requires
 read_tasks-requires c =
