@@ -1,7 +1,7 @@
 // The records of a sheet (RULES 10): each kind is a row of fields. Reading one judges its layout and none of its values.
 ghost use Rattle.std.specs.Prelude.{◌≡◌, ◌<◌, get_or};
 ghost use Rattle.record.specs.Layout.{row_of, record_with, of_kind, record_of, task_of, stated_of, asked_of, pair_of};
-ghost use Rattle.record.specs.Record.{said, record_in};
+ghost use Rattle.record.specs.Record.{PairRecord, said, record_in};
 ghost use Rattle.record.specs.inner.Fields.{head_kind, head_fields, fields_of, kind_of};
 ghost use Rattle.record.specs.inner.Kinds.{kind_number};
 ghost use Rattle.record.specs.inner.Narrow.{Held};
@@ -63,6 +63,16 @@ impl Head {
     }
 }
 
+impl Pair {
+    fn fields(self) -> Values
+        ensures { result ≡ fields_of (PairRecord self) }
+    {
+        let child = u32::from(self.child);
+        let parent = u32::from(self.parent);
+        [0, 0, child, parent, 0, 0, 0, 0]
+    }
+}
+
 impl Record {
     pub(crate) fn kind(self) -> Kind
         ensures { kind_number result ≡ kind_of (said self) }
@@ -91,16 +101,7 @@ impl Record {
                 0,
                 0,
             ],
-            Record::Pair(pair) => [
-                0,
-                0,
-                u32::from(pair.child),
-                u32::from(pair.parent),
-                0,
-                0,
-                0,
-                0,
-            ],
+            Record::Pair(pair) => pair.fields(),
             Record::End(count) => [0, 0, u32::from(count), 0, 0, 0, 0, 0],
         }
     }
