@@ -54,11 +54,6 @@ module _ (s : List ℕ) where
           fits = rw pow-suc (omega (arith, r.fits));
         })
 
-    pub read_all : count ≡ length s → (number ≡ field s 0 (length s)) × (number < 256 ^ length s)
-    read_all h =
-        let z : length s - length s ≡ 0 = omega arith in
-        (r.is ∙ (ap (λ (n : ℕ). field s (length s - n) n) h ∙ ap (λ (i : ℕ). field s i (length s)) z), rw (← h) r.fits)
-
 -- a number of fewer than 4 bytes has room for one byte more
 pub small : (n x : ℕ) → n ≤ 3 → x < 256 ^ n → x < 256 ^ 3
 small n x h b = lt_of_lt_of_le b (pow-le-pow_right {n = 256} (omega arith) h)

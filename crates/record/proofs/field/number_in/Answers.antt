@@ -1,14 +1,14 @@
 -- From the highest byte down: the number is the field that begins at the byte read last.
-use Prim.Native.Nat.{ℕ, ◌+◌, ◌-◌, ◌^◌, ◌<◌, ◌≤◌}
-use mathlib.Core.List.{[], ◌∷◌, ◌++◌, reverse}
+use Prim.Native.Nat.{◌-◌, ◌^◌, ◌<◌}
+use mathlib.Core.List.{[], ◌∷◌, ◌++◌}
 use mathlib.Core.Path.{◌≡◌, ◌∙◌}
 use lib.ListN.{length, get_or}
 use native.Mathlib.Omega.{arith}
 use Rattle.std.proofs.lemmas.Grind.{get_or_default_zero}
 use Rattle.std.proofs.lemmas.Iterator.Adapters.{YieldsList-from_rev_slice}
-use Rattle.std.proofs.lemmas.Iterator.Consumers.{YieldsList-turn, YieldsList-end}
+use Rattle.std.proofs.lemmas.Iterator.Consumers.{YieldsList-turn}
 use Rattle.std.proofs.lemmas.List.{length_push, length-reverse, get_or-reverse}
-use Rattle.record.proofs.FieldLoops.{read_none, read_more, read_all, small}
+use Rattle.record.proofs.FieldLoops.{read_none, read_more, small}
 use Rattle.record.proofs.field.number_in.Goals as goal
 use Rattle.record.proofs.field.number_in.Goals.{In-Some}
 
