@@ -23,8 +23,8 @@ loop-k-init c =
     let x = c.read_pairs-read in
     (passing_none c.requires x.result x.ensures refl, no_lines _ _)
 
-pub add_component-at-requires : goal.add_component-at-requires
-add_component-at-requires c =
+pub put_line-at-requires : goal.put_line-at-requires
+put_line-at-requires c =
     let l = c.loop-k.invariant in
     omega (arith, l.0.few, l.1.room, c.loop-k-test.true)
 
@@ -34,7 +34,7 @@ loop-k-preserved c =
     let l = c.loop-k.invariant in
     let next = c.loop-k-test.true in
     let turned = c.turn_at-turn.ensures.turned in
-    (turn_more known l.0 next turned, one_more_line _ _ _ (turn_number known l.0 next turned) (turn_outcome known l.0 next turned) l.1 c.add_component-at.ensures)
+    (turn_more known l.0 next turned, one_more_line _ _ _ (turn_number known l.0 next turned) (turn_outcome known l.0 next turned) l.1 (rw c.component_line.ensures at c.put_line-at.ensures))
 
 pub returns : goal.returns
 returns c = let all : c.loop-k.k ≡ c.args.count = omega (arith, c.loop-k.invariant.0.within) in rw all at c.loop-k.invariant.1
