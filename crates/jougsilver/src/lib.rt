@@ -59,6 +59,6 @@ pub fn jougsilver_judge_all(sheet: &[u8], reply: &mut [u8], at: usize) -> u32
     }
     let edges = contents.edges;
     write_checked(reply, at, checked);
-    put_all(sheet, &edges, count, reply, at + 12);
+    put_all(sheet, &edges, count, &mut reply[at + 12..]);
     0
 }

@@ -7,7 +7,7 @@ use Rattle.tree.proofs.Pass.{Passing}
 use Rattle.jougsilver.proofs.all.put_all.Given as goal
 
 abbrev pub invariant-loop-k : goal.invariant-loop-k
-invariant-loop-k l = Passing l.sheet l.count l.pairs l.children l.parents l.k l.offers × (l.reply ≡ sets l.initial.reply l.at (entries_to l.sheet l.k))
+invariant-loop-k l = Passing l.sheet l.count l.pairs l.children l.parents l.k l.offers × (l.entries ≡ sets l.initial.entries 0 (entries_to l.sheet l.k))
 
 abbrev pub decreases-loop-k : goal.decreases-loop-k
 decreases-loop-k l = l.count - l.k
