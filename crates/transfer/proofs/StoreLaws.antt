@@ -6,6 +6,7 @@ use mathlib.Core.List.{List, [], ◌∷◌, ◌++◌}
 use native.Mathlib.Omega.{arith}
 use lib.ListN.{length, take, drop, get_or, length-append, length-take}
 use lib.Seq.{sets, sets-eq, length-sets}
+use Rattle.std.proofs.lemmas.List.{at_drop_more, at_drop_all}
 use lib.Dec.{ltb, eqb}
 use borrow.Author.Tests.{eqb-true, eqb-false}
 use Rattle.budget.specs.declared.component.Capacity.{Capacity}
@@ -15,7 +16,6 @@ use Rattle.budget.specs.declared.task.Table.{Table}
 use Rattle.budget.specs.declared.task.Task.{Task}
 use Rattle.budget.specs.Component.{held_refusal}
 use Rattle.budget.specs.Task.{J, no_task, tasks_of}
-use Rattle.budget.proofs.Places.{from_place, from_end}
 use Rattle.record.specs.declared.layout.Pair.{Pair}
 use Rattle.record.specs.declared.layout.Record.{Record}
 use Rattle.record.specs.declared.layout.Record.TheVariants.{ComponentRecord, TaskRecord, PairRecord, EndRecord}
@@ -54,39 +54,39 @@ pub table_short : (table : Table) → table.count ≤ 64 → length (tasks_bytes
 unfolding tasks_of
 table_short table h = let n = length-take table.count table.tasks in omega (arith, tasks_short (take table.count table.tasks))
 
--- ---- the tasks of a table one after the other
+-- ---- tasks one after the other
 
-module _ (count : ℕ) (tasks : List Task) (fits : count ≤ length tasks) where
-  next_bytes : (i : ℕ) → i < count → tasks_bytes (drop i (take count tasks)) ≡ task_bytes (get_or tasks i no_task) ++ tasks_bytes (drop (i + 1) (take count tasks))
+module _ (ks : List Task) where
+  next_bytes : (i : ℕ) → i < length ks → tasks_bytes (drop i ks) ≡ task_bytes (get_or ks i no_task) ++ tasks_bytes (drop (i + 1) ks)
   unfolding tasks_bytes
-  next_bytes i h = ap tasks_bytes (from_place count tasks fits i h)
+  next_bytes i h = at_drop_more tasks_bytes ks i no_task h
 
-  pub no_bytes : (i : ℕ) → count ≤ i → tasks_bytes (drop i (take count tasks)) ≡ []
+  pub no_bytes : (i : ℕ) → length ks ≤ i → tasks_bytes (drop i ks) ≡ []
   unfolding tasks_bytes
-  no_bytes i h = ap tasks_bytes (from_end count tasks fits i h)
+  no_bytes i h = at_drop_all tasks_bytes ks i h
 
-  pub next_length : (i : ℕ) → i < count → length (tasks_bytes (drop i (take count tasks))) ≡ size_of (formed (get_or tasks i no_task)) + length (tasks_bytes (drop (i + 1) (take count tasks)))
+  pub next_length : (i : ℕ) → i < length ks → length (tasks_bytes (drop i ks)) ≡ size_of (formed (get_or ks i no_task)) + length (tasks_bytes (drop (i + 1) ks))
   next_length i h = rw (next_bytes i h, length-append, task_length)
 
 -- the tasks from place i on are still to be stored
-pub record Storing (start : List ℕ) (at count : ℕ) (tasks : List Task) (buffer : List ℕ) (place i : ℕ) : Type 0 where
-  pub todo : sets buffer place (tasks_bytes (drop i (take count tasks))) ≡ sets start at (tasks_bytes (take count tasks))
+pub record Storing (start : List ℕ) (at : ℕ) (ks : List Task) (buffer : List ℕ) (place i : ℕ) : Type 0 where
+  pub todo : sets buffer place (tasks_bytes (drop i ks)) ≡ sets start at (tasks_bytes ks)
   pub long : length buffer ≡ length start
-  pub here : place + length (tasks_bytes (drop i (take count tasks))) ≡ at + length (tasks_bytes (take count tasks))
+  pub here : place + length (tasks_bytes (drop i ks)) ≡ at + length (tasks_bytes ks)
 
-module _ (start : List ℕ) (at count : ℕ) (tasks : List Task) (fits : count ≤ length tasks) where
-  pub storing_none : Storing start at count tasks start at 0
+module _ (start : List ℕ) (at : ℕ) (ks : List Task) where
+  pub storing_none : Storing start at ks start at 0
   storing_none = record { todo = refl; long = refl; here = refl }
 
-  module _ (buffer : List ℕ) (place i : ℕ) (w : Storing start at count tasks buffer place i) where
-    pub storing_more : (new : List ℕ) (a : Written) (r : Record) → i < count → at + length (tasks_bytes (take count tasks)) ≤ length start → r ≡ formed (get_or tasks i no_task)
+  module _ (buffer : List ℕ) (place i : ℕ) (w : Storing start at ks buffer place i) where
+    pub storing_more : (new : List ℕ) (a : Written) (r : Record) → i < length ks → at + length (tasks_bytes ks) ≤ length start → r ≡ formed (get_or ks i no_task)
         → a ≡ written (room_refusal (length buffer) place (length (record_bytes r))) place (record_bytes r)
         → new ≡ buffered (room_refusal (length buffer) place (length (record_bytes r))) buffer place (record_bytes r)
-        → Storing start at count tasks new a.place (i + 1)
+        → Storing start at ks new a.place (i + 1)
     storing_more new a r h room k e f =
         let bytes = record_bytes r in
-        let rest = tasks_bytes (drop (i + 1) (take count tasks)) in
-        let d : tasks_bytes (drop i (take count tasks)) ≡ bytes ++ rest = rw (k, formed_bytes) (next_bytes count tasks fits i h) in
+        let rest = tasks_bytes (drop (i + 1) ks) in
+        let d : tasks_bytes (drop i ks) ≡ bytes ++ rest = rw (k, formed_bytes) (next_bytes ks i h) in
         let n = ap length d ∙ length-append bytes rest in
         let g : place + length bytes ≤ length buffer = omega (arith, w.here, w.long) in
         let s : new ≡ sets buffer place bytes = written_bytes buffer place bytes g new f in
@@ -100,9 +100,9 @@ module _ (start : List ℕ) (at count : ℕ) (tasks : List Task) (fits : count �
           here = omega (arith, w.here);
         }
 
-    pub storing_all : count ≤ i → (place ≡ at + length (tasks_bytes (take count tasks))) × (buffer ≡ sets start at (tasks_bytes (take count tasks)))
+    pub storing_all : length ks ≤ i → (place ≡ at + length (tasks_bytes ks)) × (buffer ≡ sets start at (tasks_bytes ks))
     storing_all h =
-        let e = no_bytes count tasks fits i h in
+        let e = no_bytes ks i h in
         let n = ap length e in
         (omega (arith, w.here), ap (sets buffer place) (sym e) ∙ w.todo)
 

@@ -1,5 +1,5 @@
 -- Reading pairs and writing one (docs/RULES.md, 10 and 11).
-use Rattle.std.specs.Prelude.{ℕ, zero, suc, ◌-◌, cond, List, [], ◌∷◌, ◌++◌, map, ◌≡◌, length, get_or, drop, replicate, ltb, eqb}
+use Rattle.std.specs.Prelude.{ℕ, zero, suc, ◌-◌, cond, List, [], ◌∷◌, ◌++◌, ◌≡◌, length, get_or, drop, replicate, ltb, eqb}
 use Rattle.budget.specs.Refusal as refusal
 use Rattle.record.specs.declared.layout.Pair.{Pair}
 use Rattle.record.specs.declared.layout.Record.{Record}
@@ -28,12 +28,10 @@ unfoldable pub pairs_in : ℕ → List ℕ → List Pair
 pairs_in zero s = []
 pairs_in (suc n) s = pair_then (record_of s) (pairs_in n (drop (size_of (record_of s)) s))
 
--- pairs as they are returned, a row of children and one of parents, with zeros behind them; a sheet has fewer pairs than components, since each child
--- has one and the largest number is no child
+-- pairs as they are returned, with zeros behind them; a sheet has fewer pairs than components, since each child has one and the largest number is
+-- no child
 unfoldable pub pair_table : List Pair → Pairs
-pair_table ps =
-    let zeros : List ℕ = replicate (most_components - length ps) 0 in
-    record { count = length ps; children = map (λ p. p.child) ps ++ zeros; parents = map (λ p. p.parent) ps ++ zeros }
+pair_table ps = record { count = length ps; pairs = ps ++ replicate (most_components - length ps) no_pair }
 
 -- the pairs of an accepted sheet are those that stand behind its last component
 abbrev pub PairsStandBehind : Type 0

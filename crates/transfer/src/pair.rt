@@ -1,5 +1,5 @@
 // Pairs between a sheet and the program (RULES 10, 11): reading one by its place among the pairs, or all of them, and writing one.
-ghost use Rattle.std.specs.Prelude.{◌≡◌, length};
+ghost use Rattle.std.specs.Prelude.{◌≡◌, length, take};
 ghost use Rattle.record.specs.Layout.{pair_bytes};
 ghost use Rattle.record.specs.Writing.{written, buffered};
 ghost use Rattle.transfer.specs.Pairing.{pair_table, pairs_in, pair_reading, pair_writing_refusal};
@@ -11,12 +11,21 @@ use record::write::{Written, size_of, write_record};
 use sheet::check::MOST_COMPONENTS;
 use sheet::contents::contents_of;
 
-// The pairs of a sheet, the first `count` of each row; the places behind them are zero.
+// The pairs of a sheet, the first `count`; the places behind them are zero.
 #[derive(Clone, Copy)]
 pub struct Pairs {
     pub count: usize,
-    pub children: [u16; 256],
-    pub parents: [u16; 256],
+    pub pairs: [Pair; 256],
+}
+
+impl Pairs {
+    // The pairs without the places behind them.
+    pub fn as_slice(&self) -> &[Pair]
+        ensures { result.now ≡ take self.now.count self.now.pairs }
+    {
+        let count = self.count.min(MOST_COMPONENTS);
+        &self.pairs[..count]
+    }
 }
 
 // What reading a pair answers; refused: both numbers are 0.
@@ -31,28 +40,22 @@ pub struct PairReading {
 pub fn read_pairs(rest: &[u8]) -> Pairs
     ensures { result ≡ pair_table (pairs_in 256 rest.now) }
 {
-    let mut children = [0u16; 256];
-    let mut parents = [0u16; 256];
-    let mut count = 0;
+    let mut pairs = [Pair {
+        child: 0,
+        parent: 0,
+    }; 256];
     let mut place = 0;
-    while count < MOST_COMPONENTS {
+    for count in 0..MOST_COMPONENTS {
         let record = record_of(&rest[place..]);
-        let pair = match record {
-            Record::PairRecord(pair) => pair,
-            Record::ComponentRecord(_) => break,
-            Record::TaskRecord(_, _) => break,
-            Record::EndRecord(_) => break,
-            Record::NoRecord(_) => break,
+        let Record::PairRecord(pair) = record else {
+            return Pairs { count, pairs };
         };
-        children[count] = pair.child;
-        parents[count] = pair.parent;
+        pairs[count] = pair;
         place += size_of(record);
-        count += 1;
     }
     Pairs {
-        count,
-        children,
-        parents,
+        count: MOST_COMPONENTS,
+        pairs,
     }
 }
 
@@ -78,21 +81,16 @@ pub fn read_pair(sheet: &[u8], place: usize) -> PairReading
     let count = checked.count;
     let from = edges[count];
     let read = read_pairs(&sheet[from..]);
-    if read.count <= place {
-        return PairReading {
+    match read.as_slice().get(place) {
+        Some(pair) => PairReading {
+            refusal: refusal::NONE,
+            place: 0,
+            pair: *pair,
+        },
+        None => PairReading {
             refusal: refusal::PLACE,
             place: 0,
             pair: none,
-        };
-    }
-    let children = read.children;
-    let parents = read.parents;
-    PairReading {
-        refusal: refusal::NONE,
-        place: 0,
-        pair: Pair {
-            child: children[place],
-            parent: parents[place],
         },
     }
 }

@@ -29,19 +29,13 @@ fn read_tasks(part: &[u8], start: usize) -> Table
 {
     let mut table = no_tasks();
     let mut place = start;
-    let mut left = Table::MOST;
-    while 0 < left {
+    for _read in 0..Table::MOST {
         let record = record_of(&part[place..]);
-        let task = match record {
-            Record::TaskRecord(_, task) => task,
-            Record::ComponentRecord(_) => return table,
-            Record::PairRecord(_) => return table,
-            Record::EndRecord(_) => return table,
-            Record::NoRecord(_) => return table,
+        let Record::TaskRecord(_, task) = record else {
+            break;
         };
         table = append(table, task);
         place += size_of(record);
-        left -= 1;
     }
     table
 }
@@ -50,10 +44,12 @@ fn read_tasks(part: &[u8], start: usize) -> Table
 fn with_head(head: Head, table: Table) -> Component
     ensures { result ≡ record { number = head.number; period = head.period; capacity = head.capacity; deadline = head.deadline; common = common_of head.period.0 (tasks_of table); table = table } }
 {
-    let number = head.number;
-    let period = head.period;
-    let capacity = head.capacity;
-    let deadline = head.deadline;
+    let Head {
+        number,
+        period,
+        capacity,
+        deadline,
+    } = head;
     let common = common_of(period, table);
     Component {
         number,
@@ -79,13 +75,10 @@ fn component_from(part: &[u8], record: Record) -> Component
     requires { size_of «record» ≤ length part.now }
     ensures { result ≡ component_from part.now «record» }
 {
-    match record {
-        Record::ComponentRecord(head) => component_with(part, head),
-        Record::TaskRecord(_, _) => refused(),
-        Record::PairRecord(_) => refused(),
-        Record::EndRecord(_) => refused(),
-        Record::NoRecord(_) => refused(),
-    }
+    let Record::ComponentRecord(head) = record else {
+        return refused();
+    };
+    component_with(part, head)
 }
 
 // Reads the component of a part: its record, then the task records behind it. A part that does not begin with a component record
@@ -132,13 +125,7 @@ pub fn part_at<'a>(sheet: &'a [u8], edges: &[usize; 257], place: usize) -> &'a [
     }
     let from = edges[place];
     let to = edges[place + 1];
-    if to < from {
-        return &sheet[..0];
-    }
-    if sheet.len() < to {
-        return &sheet[..0];
-    }
-    &sheet[from..to]
+    sheet.get(from..to).unwrap_or(&sheet[..0])
 }
 
 // Reads the component at a place of a sheet whose edges are known.

@@ -18,10 +18,13 @@ use sheet::check::MOST_COMPONENTS;
 fn head_of(component: Component) -> Head
     ensures { result ≡ record { number = component.number; period = component.period; capacity = component.capacity; deadline = component.deadline } }
 {
-    let number = component.number;
-    let period = component.period;
-    let capacity = component.capacity;
-    let deadline = component.deadline;
+    let Component {
+        number,
+        period,
+        capacity,
+        deadline,
+        ..
+    } = component;
     Head {
         number,
         period,
@@ -43,13 +46,10 @@ fn tasks_size(table: Table) -> usize
     requires { table.count ≤ 64 }
     ensures { result ≡ length (tasks_bytes (tasks_of table)) }
 {
-    let count = table.count;
     let tasks = table.tasks;
     let mut size = 0;
-    let mut i = 0;
-    while i < count {
-        size += size_of(task_record(tasks[i]));
-        i += 1;
+    for task in &tasks[..table.count] {
+        size += size_of(task_record(*task));
     }
     size
 }
@@ -59,15 +59,11 @@ fn write_tasks(buffer: &mut [u8], at: usize, table: Table) -> usize
     ensures place { result ≡ at + length (tasks_bytes (tasks_of table)) }
     ensures bytes { buffer.new ≡ sets buffer.old at (tasks_bytes (tasks_of table)) }
 {
-    let count = table.count;
     let tasks = table.tasks;
     let mut place = at;
-    let mut i = 0;
-    while i < count {
-        let record = task_record(tasks[i]);
-        let written = write_record(buffer, place, record);
+    for task in &tasks[..table.count] {
+        let written = write_record(buffer, place, task_record(*task));
         place = written.place;
-        i += 1;
     }
     place
 }

@@ -4,14 +4,17 @@ use Rattle.budget.specs.Component.{refused}
 use Rattle.budget.specs.Refusal as refusal
 use Rattle.sheet.specs.Check.{pairs_of}
 use Rattle.transfer.specs.Reading.{reading}
-use Rattle.tree.specs.declared.answer.Load.{Load}
-use Rattle.tree.specs.declared.answer.Outcome.{Outcome}
-use Rattle.tree.specs.declared.offer.Offer.{Offer}
-use Rattle.tree.specs.declared.place.Loaded.{Loaded}
-use Rattle.tree.specs.declared.place.Placed.{Placed}
+use Rattle.tree.specs.declared.place.Loaded as code
+use Rattle.tree.specs.declared.place.Placed as coded
+use Rattle.tree.specs.declared.place.Placed.TheVariants as code_placed
+use Rattle.tree.specs.numbers.Load.{Load}
+use Rattle.tree.specs.numbers.Outcome.{Outcome}
+use Rattle.tree.specs.numbers.Offer.{Offer}
+use Rattle.tree.specs.numbers.Loaded.{Loaded}
+use Rattle.tree.specs.numbers.Placed.{Placed}
 use Rattle.tree.specs.Offer.{offer_of}
-use Rattle.tree.specs.Outcome.{outcome_of}
-use Rattle.tree.specs.Workload.{load_on, ready}
+use Rattle.tree.specs.Outcome.{outcome_in, outcome_of}
+use Rattle.tree.specs.Workload.{load_in, load_on, ready}
 
 -- the offers of the first k components; a child has a smaller number than its parent, so its offer stands before
 unfoldable pub offers_to : List ℕ → ℕ → List Offer
@@ -38,3 +41,11 @@ unfoldable pub placing : List ℕ → ℕ → Placed
 placing s k =
     let r = reading s k in
     cond (eqb r.refusal refusal.none) (Placed.Found r.component.number (outcome_at s k)) (Placed.Refused r.refusal r.place)
+
+-- what is answered at a place, in the paper's numbers
+abbrev pub loaded_in : code.Loaded → Loaded
+loaded_in l = record { refusal = l.refusal; place = l.place; number = l.number; load = load_in l.workload }
+
+abbrev pub placed_in : coded.Placed → Placed
+placed_in (code_placed.Refused n byte) = Placed.Refused n byte
+placed_in (code_placed.Found n o) = Placed.Found n (outcome_in o)
