@@ -1,5 +1,6 @@
 // The reply on one component, from what it is answered in its tree.
 ghost use Rattle.std.specs.Prelude.{◌≡◌, length};
+ghost use Rattle.tree.specs.Outcome.{outcome_in};
 ghost use Rattle.jougsilver.specs.Answer.{refusal_in, refusal_of, capacity_in, verdict_in, judged_reply, bare_reply, reply_of, reply_on, answer_refusal};
 ghost use Rattle.judge.specs.Judged.{code_of, instant_of};
 ghost use Rattle.judge.specs.Margin.{margin_of, margin_instant_of};
@@ -116,7 +117,7 @@ fn waiting_reply(number: u16) -> Reply
 // The reply on a component, in the order of its fields.
 #[tactic(auto, unfolding(crate::specs::Answer::reply_of))]
 pub(crate) fn reply_of(number: u16, outcome: Outcome) -> Reply
-    ensures { result ≡ reply_of number outcome }
+    ensures { result ≡ reply_of number (outcome_in outcome) }
 {
     match outcome {
         Outcome::Waiting => waiting_reply(number),
@@ -126,7 +127,7 @@ pub(crate) fn reply_of(number: u16, outcome: Outcome) -> Reply
 
 // The refusal of a component that is judged: 10 or none; one that waits has none.
 pub(crate) fn refusal_of(outcome: Outcome) -> u16
-    ensures { result ≡ refusal_of outcome }
+    ensures { result ≡ refusal_of (outcome_in outcome) }
 {
     match outcome {
         Outcome::Waiting => refusal::NONE,
@@ -139,8 +140,8 @@ pub(crate) fn refusal_of(outcome: Outcome) -> u16
 
 // Puts the reply on a component into the host's buffer from a place on, and answers 0 or the refusal: 10, then 11.
 pub(crate) fn answer(number: u16, outcome: Outcome, reply: &mut [u8], at: usize) -> u16
-    ensures answer { result ≡ answer_refusal outcome (length reply.old) at }
-    ensures bytes { reply.new ≡ buffered (answer_refusal outcome (length reply.old) at) reply.old at (reply_on number outcome) }
+    ensures answer { result ≡ answer_refusal (outcome_in outcome) (length reply.old) at }
+    ensures bytes { reply.new ≡ buffered (answer_refusal (outcome_in outcome) (length reply.old) at) reply.old at (reply_on number (outcome_in outcome)) }
 {
     let refused = refusal_of(outcome);
     if refused != refusal::NONE {

@@ -2,6 +2,7 @@
 #![tactic(auto, unfolding(crate::specs::Lines::behind, crate::specs::Lines::refused_line, crate::specs::Lines::end_line, crate::specs::Lines::margin_fields, crate::specs::Lines::verdict_fields, crate::specs::Lines::answer_fields, crate::specs::Lines::outcome_fields, crate::specs::Lines::component_line), using(crate::proofs::Digits::as_text))]
 
 ghost use Rattle.std.specs.Prelude.{◌≡◌, ◌≤◌, [], ◌∷◌, ◌++◌, length};
+ghost use Rattle.tree.specs.Outcome.{outcome_in};
 ghost use Rattle.report.specs.Lines.{behind, refused_line, end_line, component_line, margin_fields, verdict_fields, answer_fields, outcome_fields};
 
 use crate::line::Line;
@@ -83,7 +84,7 @@ fn put_answer(line: &mut Line, answer: Answer)
 // What stands behind a component's number in its tree, and the newline.
 fn put_outcome(line: &mut Line, outcome: Outcome)
     requires { length line.old ≤ 6 }
-    ensures { line.new ≡ line.old ++ behind (outcome_fields outcome) }
+    ensures { line.new ≡ line.old ++ behind (outcome_fields (outcome_in outcome)) }
 {
     match outcome {
         Outcome::Waiting => line.word(b" waiting\n"),
@@ -93,7 +94,7 @@ fn put_outcome(line: &mut Line, outcome: Outcome)
 
 // The line of one component: its number, then its answer.
 pub(crate) fn component_line(number: u16, outcome: Outcome) -> Line
-    ensures { result ≡ component_line number outcome }
+    ensures { result ≡ component_line number (outcome_in outcome) }
 {
     let mut line = Line::new();
     line.number(number);

@@ -9,7 +9,8 @@ use crate::lines::{component_line, end_line, refused_line};
 use budget::refusal;
 use sheet::contents::contents_of;
 use transfer::pair::read_pairs;
-use tree::turn::turn_at;
+use tree::offer::Offer;
+use tree::turn::{Pass, turn_at};
 
 // Room for the longest listing: 256 components and the end, a line of at most 64 bytes each.
 pub type Page = [u8; 16448];
@@ -26,29 +27,22 @@ fn put_line(page: &mut Page, at: usize, line: &Line) -> usize
 }
 
 // The lines of the components in their order, each read between its edges and judged after its children.
+#[tactic(auto, using(tree::proofs::Pass::known_within))]
 fn add_components(sheet: &[u8], edges: &[usize; 257], count: usize, page: &mut Page) -> usize
     requires { Known sheet.now edges.now count }
     ensures { Lines sheet.now page.old count page.new result }
 {
-    let from = edges[count];
-    let read = read_pairs(&sheet[from..]);
-    let pairs = read.count;
-    let children = read.children;
-    let parents = read.parents;
-    let mut offers = [0u32; 1024];
+    let pairs = read_pairs(&sheet[edges[count]..]);
+    let pass = Pass {
+        sheet,
+        edges,
+        pairs: pairs.as_slice(),
+    };
+    let mut offers = [Offer::NONE; 256];
     let mut at = 0;
-    let mut k = 0;
-    while k < count {
-        let turn = turn_at(
-            sheet,
-            edges,
-            &children[..pairs],
-            &parents[..pairs],
-            k,
-            &mut offers,
-        );
+    for place in 0..count {
+        let turn = turn_at(pass, place, &mut offers);
         at = put_line(page, at, &component_line(turn.number, turn.outcome));
-        k += 1;
     }
     at
 }
