@@ -5,9 +5,9 @@ ghost use Rattle.tree.specs.Outcome.{outcome_in};
 ghost use Rattle.jougsilver.specs.Host.{entry_on, entries_to};
 ghost use Rattle.tree.specs.inner.Known.{Known};
 
-use crate::answer::{refusal_of, reply_of};
-use budget::refusal;
+use crate::answer::{number_in, reply_of};
 use record::write::write_numbers;
+use sheet::contents::Contents;
 use transfer::pair::read_pairs;
 use transfer::reply::write_reply;
 use tree::answer::Outcome;
@@ -19,32 +19,35 @@ fn put_entry(number: u16, outcome: Outcome, byte: usize, entry: &mut [u8])
     requires { (length entry.old ≡ 36) × (byte < 4_294_967_296) }
     ensures { entry.new ≡ entry_on number (outcome_in outcome) byte }
 {
-    let refused = refusal_of(outcome);
-    write_numbers(entry, 0, refused as u32, number as u32, byte as u32);
-    if refused == refusal::NONE {
-        write_reply(entry, 12, reply_of(number, outcome));
-    } else {
-        entry[12..].fill(0);
+    let reply = reply_of(number, outcome);
+    let first = number_in(reply);
+    write_numbers(entry, 0, first, u32::from(number), byte as u32);
+    match reply {
+        Ok(fields) => {
+            write_reply(entry, 12, fields);
+        }
+        Err(_) => entry[12..].fill(0),
     }
 }
 
 // The entries of the components in their order, each read between its edges and judged after its children.
 #[tactic(auto, using(tree::proofs::Pass::known_within))]
-pub(crate) fn put_all(sheet: &[u8], edges: &[usize; 257], count: usize, entries: &mut [u8])
-    requires known { Known sheet.now edges.now count }
-    requires room { 36 * count ≤ length entries.old }
-    ensures { entries.new ≡ sets entries.old 0 (entries_to sheet.now count) }
+pub(crate) fn put_all(sheet: &[u8], contents: &Contents, entries: &mut [u8])
+    requires known { Known sheet.now contents.now.edges contents.now.count }
+    requires room { 36 * contents.now.count ≤ length entries.old }
+    ensures { entries.new ≡ sets entries.old 0 (entries_to sheet.now contents.now.count) }
 {
-    let pairs = read_pairs(&sheet[edges[count]..]);
+    let count = contents.count;
+    let pairs = read_pairs(&sheet[contents.edges[count]..]);
     let pass = Pass {
         sheet,
-        edges,
+        edges: &contents.edges,
         pairs: pairs.as_slice(),
     };
     let mut offers = [Offer::NONE; 256];
     for place in 0..count {
         let turn = turn_at(pass, place, &mut offers);
         let entry = &mut entries[36 * place..36 * place + 36];
-        put_entry(turn.number, turn.outcome, edges[place], entry);
+        put_entry(turn.number, turn.outcome, contents.edges[place], entry);
     }
 }

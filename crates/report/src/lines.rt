@@ -2,22 +2,25 @@
 #![tactic(auto, unfolding(crate::specs::Lines::behind, crate::specs::Lines::refused_line, crate::specs::Lines::end_line, crate::specs::Lines::margin_fields, crate::specs::Lines::verdict_fields, crate::specs::Lines::answer_fields, crate::specs::Lines::outcome_fields, crate::specs::Lines::component_line), using(crate::proofs::Digits::as_text))]
 
 ghost use Rattle.std.specs.Prelude.{◌≡◌, ◌≤◌, [], ◌∷◌, ◌++◌, length};
+ghost use Rattle.budget.specs.Refusal.{number_of};
+ghost use Rattle.judge.specs.Answer.{judgement_in};
+ghost use Rattle.judge.specs.Margin.{margin_in};
 ghost use Rattle.tree.specs.Outcome.{outcome_in};
-ghost use Rattle.report.specs.Lines.{behind, refused_line, end_line, component_line, margin_fields, verdict_fields, answer_fields, outcome_fields};
+ghost use Rattle.report.specs.Lines.{behind, refused_line, end_line, component_line, margin_fields, answer_fields, outcome_fields};
 
 use crate::line::Line;
-use budget::quantity::Units;
-use judge::answer::{Answer, Judged, Margined, Verdict};
+use judge::answer::{Judgement, Margin, Verdict};
+use sheet::fault::Fault;
 use tree::answer::Outcome;
 
 // The one line of a refused sheet.
-pub(crate) fn refused_line(number: u16, place: usize) -> Line
-    ensures { result ≡ refused_line number place }
+pub(crate) fn refused_line(fault: Fault) -> Line
+    ensures { result ≡ refused_line (number_of fault.refusal) fault.place }
 {
     let mut line = Line::new();
     line.word(b"refused");
-    line.field(number);
-    line.field(place);
+    line.field(u16::from(fault.refusal));
+    line.field(fault.place);
     line.word(b"\n");
     line
 }
@@ -34,50 +37,38 @@ pub(crate) fn end_line(count: usize) -> Line
 }
 
 // The last fields of an accepted or short component, and the newline.
-fn put_margin(line: &mut Line, margined: Margined)
+fn put_margin(line: &mut Line, margin: Option<Margin>)
     requires { length line.old ≤ 38 }
-    ensures { line.new ≡ line.old ++ behind (margin_fields margined) }
+    ensures { line.new ≡ line.old ++ behind (margin_fields (margin_in margin)) }
 {
-    match margined {
-        Margined::Least(margin, stands) => {
-            line.field(margin);
-            line.field(stands.0);
+    match margin {
+        Some(margin) => {
+            line.field(margin.units);
+            line.field(margin.at.0);
             line.word(b"\n");
         }
-        Margined::Refused(_) => line.word(b" - -\n"),
-        Margined::None => line.word(b" - -\n"),
+        None => line.word(b" - -\n"),
     }
 }
 
 // The verdict, the capacity it speaks of, and the margin.
-fn put_verdict(line: &mut Line, capacity: Units, verdict: Verdict, margined: Margined)
+fn put_judgement(line: &mut Line, judgement: Judgement)
     requires { length line.old ≤ 6 }
-    ensures { line.new ≡ line.old ++ behind (verdict_fields capacity verdict margined) }
+    ensures { line.new ≡ line.old ++ behind (answer_fields (judgement_in judgement)) }
 {
-    match verdict {
+    match judgement.verdict {
         Verdict::Accepted => {
             line.word(b" accepted");
-            line.field(capacity.0);
-            put_margin(line, margined);
+            line.field(judgement.capacity.0);
+            put_margin(line, judgement.margin);
         }
         Verdict::Short(instant) => {
             line.word(b" short");
-            line.field(capacity.0);
+            line.field(judgement.capacity.0);
             line.field(instant.0);
-            put_margin(line, margined);
+            put_margin(line, judgement.margin);
         }
         Verdict::None => line.word(b" none\n"),
-    }
-}
-
-// What stands behind a component's number, and the newline.
-fn put_answer(line: &mut Line, answer: Answer)
-    requires { length line.old ≤ 6 }
-    ensures { line.new ≡ line.old ++ behind (answer_fields answer) }
-{
-    match answer.verdict {
-        Judged::Refused(_) => line.word(b" long\n"),
-        Judged::Answered(capacity, verdict) => put_verdict(line, capacity, verdict, answer.margin),
     }
 }
 
@@ -88,7 +79,8 @@ fn put_outcome(line: &mut Line, outcome: Outcome)
 {
     match outcome {
         Outcome::Waiting => line.word(b" waiting\n"),
-        Outcome::Judged(answer) => put_answer(line, answer),
+        Outcome::Judged(Err(_)) => line.word(b" long\n"),
+        Outcome::Judged(Ok(judgement)) => put_judgement(line, judgement),
     }
 }
 

@@ -6,8 +6,7 @@ ghost use Rattle.tree.specs.inner.Known.{Known};
 
 use crate::line::Line;
 use crate::lines::{component_line, end_line, refused_line};
-use budget::refusal;
-use sheet::contents::contents_of;
+use sheet::contents::{Contents, contents_of};
 use transfer::pair::read_pairs;
 use tree::offer::Offer;
 use tree::turn::{Pass, turn_at};
@@ -28,14 +27,15 @@ fn put_line(page: &mut Page, at: usize, line: &Line) -> usize
 
 // The lines of the components in their order, each read between its edges and judged after its children.
 #[tactic(auto, using(tree::proofs::Pass::known_within))]
-fn add_components(sheet: &[u8], edges: &[usize; 257], count: usize, page: &mut Page) -> usize
-    requires { Known sheet.now edges.now count }
-    ensures { Lines sheet.now page.old count page.new result }
+fn add_components(sheet: &[u8], contents: &Contents, page: &mut Page) -> usize
+    requires { Known sheet.now contents.now.edges contents.now.count }
+    ensures { Lines sheet.now page.old contents.now.count page.new result }
 {
-    let pairs = read_pairs(&sheet[edges[count]..]);
+    let count = contents.count;
+    let pairs = read_pairs(&sheet[contents.edges[count]..]);
     let pass = Pass {
         sheet,
-        edges,
+        edges: &contents.edges,
         pairs: pairs.as_slice(),
     };
     let mut offers = [Offer::NONE; 256];
@@ -51,14 +51,11 @@ fn add_components(sheet: &[u8], edges: &[usize; 257], count: usize, page: &mut P
 pub fn listing(sheet: &[u8], page: &mut Page) -> usize
     ensures { Listed sheet.now page.old page.new result }
 {
-    let contents = contents_of(sheet);
-    let checked = contents.checked;
-    let number = checked.refusal;
-    if number != refusal::NONE {
-        return put_line(page, 0, &refused_line(number, checked.place));
+    match contents_of(sheet) {
+        Ok(contents) => {
+            let at = add_components(sheet, &contents, page);
+            put_line(page, at, &end_line(contents.count))
+        }
+        Err(fault) => put_line(page, 0, &refused_line(fault)),
     }
-    let count = checked.count;
-    let edges = contents.edges;
-    let at = add_components(sheet, &edges, count, page);
-    put_line(page, at, &end_line(count))
 }
