@@ -18,8 +18,8 @@ use Rattle.budget.specs.Interface.{dedicated, interface, valid_interface}
 use Rattle.budget.specs.Supply.{supply, whole_periods}
 use Rattle.budget.specs.Task.{table_of, tasks_of, valid_task, valid_tasks}
 use Rattle.budget.proofs.Valid.{both}
-use Rattle.judge.specs.declared.answer.Judged.TheVariants.{Answered}
-use Rattle.judge.specs.declared.answer.Margined.TheVariants as Margin
+use Rattle.judge.specs.numbers.Judged.{Answered}
+use Rattle.judge.specs.numbers.Margined as Margin
 use Rattle.judge.specs.declared.answer.Verdict.TheVariants as Verdict
 use Rattle.judge.specs.Judged.{judged_at, verdict_answer}
 use Rattle.judge.specs.Margin.{margin_answer, margin_on, margined_at, tight_at, tight_instant, tried}
@@ -28,7 +28,7 @@ use Rattle.judge.specs.Verdict.{accepts, first_short, is_short, verdict_on}
 use Rattle.record.specs.declared.layout.Pair.{Pair}
 use Rattle.record.specs.Field.{Bytes, encode}
 use Rattle.record.specs.Layout.{end_bytes, head_bytes, pair_bytes, task_bytes, task_bytes_by}
-use Rattle.sheet.specs.declared.check.Checked.{Checked}
+use Rattle.sheet.specs.Check.{Checked}
 use Rattle.sheet.specs.Check.{check, pairs_of}
 use Rattle.sheet.specs.Pairs.{Nested, named, own_tasks, pair_refusal, pairs, registered, rises}
 use Rattle.transfer.specs.declared.read.Reading.{Reading}

@@ -10,7 +10,7 @@ use lib.Seq.{sets, sets-eq, take_all}
 use borrow.Rule.Slice.PartMut.{put_mid}
 use Rattle.std.proofs.lemmas.Slice.{put_mid-paste}
 use Rattle.budget.specs.Refusal as refusal
-use Rattle.sheet.specs.declared.check.Checked.{Checked}
+use Rattle.sheet.specs.Check.{Checked}
 use Rattle.sheet.specs.Check.{check}
 use Rattle.transfer.specs.Reading.{reading}
 use Rattle.record.proofs.StoreLaws.{sets_append}

@@ -7,8 +7,8 @@ use lib.ListN.{length, get_or, take, drop}
 use lib.Seq.{take_at}
 use borrow.Author.Tests.{lt-ltb, le-ltb, ne_eqb}
 use Rattle.record.specs.declared.layout.Pair.{Pair}
-use Rattle.sheet.specs.declared.check.Checked.{Checked}
-use Rattle.sheet.specs.declared.contents.Contents.{Contents}
+use Rattle.sheet.specs.Check.{Checked}
+use Rattle.sheet.specs.Contents.{Contents}
 use Rattle.sheet.specs.Check.{check, pairs_of}
 use Rattle.sheet.specs.Contents.{edge_of, contents_of}
 use Rattle.sheet.proofs.ContentsLaws.{taken, edges_are, edges_within}

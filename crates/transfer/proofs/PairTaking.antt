@@ -6,8 +6,8 @@ use native.Mathlib.Omega.{arith}
 use lib.ListN.{length, take, drop, set, replicate, length-append}
 use lib.Seq.{append_snoc, set_at}
 use Rattle.record.specs.declared.layout.Pair.{Pair}
-use Rattle.record.specs.declared.layout.Record.{Record}
-use Rattle.record.specs.declared.layout.Record.TheVariants.{ComponentRecord, TaskRecord, PairRecord, EndRecord, NoRecord}
+use Rattle.record.specs.Record.{Record}
+use Rattle.record.specs.Record.{ComponentRecord, TaskRecord, PairRecord, EndRecord, NoRecord}
 use Rattle.record.specs.Layout.{size_of, record_of}
 use Rattle.transfer.specs.declared.pair.Pairs.{Pairs}
 use Rattle.transfer.specs.Pairing.{no_pair, pair_then, pairs_in, pair_table}

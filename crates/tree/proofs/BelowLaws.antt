@@ -14,8 +14,8 @@ use Rattle.std.specs.List.{list_any}
 use Rattle.std.specs.Prelude.{nat_eq}
 use borrow.Author.Tests.{eqb-true, eq-eqb}
 use Rattle.budget.specs.declared.component.Component.{Component}
-use Rattle.judge.specs.declared.answer.Judged.{Judged}
-use Rattle.judge.specs.declared.answer.Judged.TheVariants.{Refused, Answered}
+use Rattle.judge.specs.numbers.Judged.{Judged}
+use Rattle.judge.specs.numbers.Judged.{Refused, Answered}
 use Rattle.judge.specs.declared.answer.Verdict.TheVariants as Verdict
 use Rattle.record.specs.declared.layout.Pair.{Pair}
 use Rattle.record.proofs.Cases.{cases, either}

@@ -3,8 +3,8 @@ use Rattle.std.specs.Prelude.{ℕ, ◌<◌, Bool, cond, not, List, [], ◌∷◌
 use Rattle.budget.specs.declared.component.Component.{Component}
 use Rattle.budget.specs.declared.quantity.Units.{Units}
 use Rattle.budget.specs.declared.task.Task.{Task}
-use Rattle.judge.specs.declared.answer.Judged.{Judged}
-use Rattle.judge.specs.declared.answer.Judged.TheVariants.{Refused, Answered}
+use Rattle.judge.specs.numbers.Judged.{Judged}
+use Rattle.judge.specs.numbers.Judged.{Refused, Answered}
 use Rattle.judge.specs.declared.answer.Verdict.TheVariants as Verdict
 use Rattle.tree.specs.numbers.Outcome.{Outcome}
 use Rattle.tree.specs.declared.offer.Offer as code
