@@ -9,7 +9,10 @@ use lib.Dec.{eqb}
 use borrow.Author.Tests.{eqb-true, eqb-false, eq-eqb, ne_eqb}
 use Rattle.jougsilver.specs.Answer.{answer_refusal, refusal_of, reply_of, reply_on}
 use Rattle.jougsilver.specs.Host.{host_refusal, host_reply}
-use Rattle.record.specs.Writing.{room_refusal, buffered}
+use Rattle.std.specs.Prelude.{Result, Ok, Err}
+use Rattle.budget.specs.declared.refusal.Refusal.{Refusal}
+use Rattle.budget.specs.Refusal.{number_in}
+use Rattle.record.specs.Writing.{Written, room_refusal, buffered, written, written_in}
 use Rattle.record.proofs.Cases.{cases}
 use Rattle.transfer.specs.Reading.{reading}
 use Rattle.transfer.specs.Reply.{reply_bytes}
@@ -61,3 +64,9 @@ module _ (s : List ℕ) (place room at : ℕ) where
     pub reply_left : reply_bytes (reply_of number o) ≡ host_reply s place
     unfolding reply_on
     reply_left = rw (← standing.numbered, ← standing.judged)
+
+-- the number of what a writer answers
+pub written_number : (r : Result ℕ Refusal) (n at : ℕ) (bytes : List ℕ) → written_in r ≡ written n at bytes → number_in r ≡ n
+unfolding written
+written_number (Ok place) n at bytes e = ap (λ (w : Written). w.refusal) e
+written_number (Err r) n at bytes e = ap (λ (w : Written). w.refusal) e

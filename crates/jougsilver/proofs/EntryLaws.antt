@@ -20,7 +20,7 @@ use Rattle.record.specs.Reply.{reply_row, reply_bytes}
 use Rattle.record.specs.Writing.{buffered, numbers_row, numbers_bytes, room_refusal}
 use Rattle.record.proofs.Cases.{cases}
 use Rattle.record.proofs.RowLaws.{row_length_lem}
-use Rattle.record.proofs.StoreLaws.{sets_append, written_bytes}
+use Rattle.record.proofs.StoreLaws.{part_stored, sets_append, written_bytes}
 use Rattle.sheet.specs.Contents.{edge_of}
 use Rattle.transfer.specs.Reading.{reading}
 use Rattle.tree.specs.numbers.Outcome.{Outcome}
@@ -56,13 +56,6 @@ pub stored_all : (l : List ℕ) (at : ℕ) (bytes : List ℕ) (size : ℕ) → l
 stored_all l at bytes size n h {new} e =
     written_bytes l at bytes (omega arith) new (e ∙ ap (λ (m : ℕ). buffered (room_refusal (length l) at m) l at bytes) (sym n))
 
--- bytes copied over a part of a list as long as they are
-pub copied : (l : List ℕ) (at : ℕ) (bytes new : List ℕ) (k : ℕ) → new ≡ bytes → k ≡ length bytes → at + length bytes ≤ length l → put_mid at k l new ≡ sets l at bytes
-copied l at bytes new k e n h =
-    put_mid-paste at k l new bytes (length bytes) e (sym n) refl
-    ∙ (ap (λ (xs : List ℕ). take at l ++ xs ++ drop (at + length bytes) l) (take_all (length bytes) bytes (omega arith))
-    ∙ sym (sets-eq bytes l at h))
-
 -- bytes stored over all of a list are the list
 sets_whole : (l bytes : List ℕ) → length bytes ≡ length l → sets l 0 bytes ≡ bytes
 sets_whole l bytes e = sets-eq bytes l 0 (omega arith) ∙ rw (drop_of_length-le l {i = 0 + length bytes} (omega arith), append-nil)
@@ -97,7 +90,7 @@ module _ (l : List ℕ) (number byte : ℕ) (o : Outcome) (long : length l ≡ 3
   pub zeros_put : (refusal_of o ≡ 0 → ⊥) → {zeros : List ℕ} (k j : ℕ) → k ≡ 24 → j ≡ 24 → zeros ≡ replicate j 0 → put_mid 12 k half zeros ≡ entry_on number o byte
   unfolding rest_on
   zeros_put z {zeros} k j n m e =
-      whole (rw (ne_eqb (refusal_of o) 0 z) (copied half 12 (replicate 24 0) zeros k (e ∙ ap (λ (i : ℕ). replicate i 0) m) (omega arith) (omega (arith, half_long))))
+      whole (rw (ne_eqb (refusal_of o) 0 z) (rw (e, m) (part_stored half 12 k (replicate 24 0) (omega arith) (omega (arith, half_long)))))
 
 -- an entry behind those of the first k components
 pub one_more_entry : (s l : List ℕ) (k m : ℕ) {now new : List ℕ} {number byte : ℕ} {o : Outcome} → now ≡ sets l 0 (entries_to s k)
@@ -108,7 +101,7 @@ one_more_entry s l k m {now} {new} {number} {byte} {o} e is judged edge n room f
     let next : entries_to s k ++ entry_on number o byte ≡ entries_to s (k + 1) = rw (is, judged, edge, add-one) in
     let size : length (entry_on number o byte) ≡ 36 = entry_length number o byte in
     let long : length now ≡ length l = ap length e ∙ length-sets l 0 (entries_to s k) in
-    copied now (36 * k) (entry_on number o byte) new m f (omega arith) (omega arith)
+    rw f (part_stored now (36 * k) m (entry_on number o byte) (omega arith) (omega arith))
     ∙ (ap₂ (λ (xs : List ℕ) (i : ℕ). sets xs i (entry_on number o byte)) e (omega (arith, entries_length s k))
     ∙ (sym (sets_append l 0 (entries_to s k) (entry_on number o byte))
     ∙ ap (λ (xs : List ℕ). sets l 0 xs) next))

@@ -14,17 +14,18 @@ use tree::answer::Outcome;
 use tree::offer::Offer;
 use tree::turn::{Pass, turn_at};
 
-// One component's refusal, its number, the byte where its record begins, and its reply, or as many zeros where it is refused.
+// One component's refusal, its number, the byte where its record begins, and its reply, or as many zeros where it is refused. An entry has room for all of
+// it, so neither writer refuses.
 fn put_entry(number: u16, outcome: Outcome, byte: usize, entry: &mut [u8])
     requires { (length entry.old ≡ 36) × (byte < 4_294_967_296) }
     ensures { entry.new ≡ entry_on number (outcome_in outcome) byte }
 {
     let reply = reply_of(number, outcome);
     let first = number_in(reply);
-    write_numbers(entry, 0, first, u32::from(number), byte as u32);
+    let _ = write_numbers(entry, 0, first, u32::from(number), byte as u32);
     match reply {
         Ok(fields) => {
-            write_reply(entry, 12, fields);
+            let _ = write_reply(entry, 12, fields);
         }
         Err(_) => entry[12..].fill(0),
     }

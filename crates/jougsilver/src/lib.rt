@@ -54,7 +54,8 @@ fn judge_all(sheet: &[u8], reply: &mut [u8], at: usize) -> Result<(), Refusal>
     let contents = contents_of(sheet).map_err(|fault| fault.refusal)?;
     let count = contents.count;
     check_room(reply.len(), at, 12 + 36 * count)?;
-    write_checked(reply, at, Ok(count));
+    // With room for all of it this isn't refused.
+    let _ = write_checked(reply, at, Ok(count));
     put_all(sheet, &contents, &mut reply[at + 12..]);
     Ok(())
 }

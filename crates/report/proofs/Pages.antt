@@ -20,13 +20,6 @@ use Rattle.report.specs.Lines.{component_line, end_line, refused_line}
 use Rattle.report.specs.Listing.{Listed, component_lines, listing_of}
 use Rattle.report.specs.inner.Paged.{Lines, Paged}
 
--- bytes copied over a part of a page as long as they are
-pub copied : (l : List ℕ) (at : ℕ) (bytes new : List ℕ) (k : ℕ) → new ≡ bytes → k ≡ length bytes → at + length bytes ≤ length l → put_mid at k l new ≡ sets l at bytes
-copied l at bytes new k e n h =
-    put_mid-paste at k l new bytes (length bytes) e (sym n) refl
-    ∙ (ap (λ (xs : List ℕ). take at l ++ xs ++ drop (at + length bytes) l) (take_all (length bytes) bytes (omega arith))
-    ∙ sym (sets-eq bytes l at h))
-
 -- bytes put behind those at the front of a page are put there together
 behind : (page lines : List ℕ) {now line after : List ℕ} {at r : ℕ} → at ≡ length lines → now ≡ sets page 0 lines → Paged now at line after r → after ≡ sets page 0 (lines ++ line)
 behind page lines {now} {line} {after} {at} e n p =

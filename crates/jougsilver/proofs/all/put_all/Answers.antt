@@ -9,11 +9,11 @@ use Rattle.tree.proofs.Pass.{known_edge, known_few, known_small, passing_none, t
 use Rattle.jougsilver.proofs.EntryLaws.{one_more_entry}
 use Rattle.jougsilver.proofs.all.put_all.Goals as goal
 
-pub offset_bounds-edges-count : goal.offset_bounds-edges-count
-offset_bounds-edges-count c = let few = known_few c.requires.known in omega arith
+pub offset_bounds-contents-count : goal.offset_bounds-contents-count
+offset_bounds-contents-count c = let few = known_few c.requires.known in omega arith
 
-pub bounds-edges-count : goal.bounds-edges-count
-bounds-edges-count c = let few = known_few c.requires.known in omega arith
+pub bounds-contents-count : goal.bounds-contents-count
+bounds-contents-count c = let few = known_few c.requires.known in omega arith
 
 pub loop-place-init : goal.loop-place-init
 unfolding entries_to

@@ -5,11 +5,11 @@ use Rattle.tree.proofs.Pass.{known_few, passing_none, turn_number, turn_outcome,
 use Rattle.report.proofs.Pages.{no_lines, one_more_line}
 use Rattle.report.proofs.listing.add_components.Goals as goal
 
-pub offset_bounds-edges-count : goal.offset_bounds-edges-count
-offset_bounds-edges-count c = let few = known_few c.requires in omega arith
+pub offset_bounds-contents-count : goal.offset_bounds-contents-count
+offset_bounds-contents-count c = let few = known_few c.requires in omega arith
 
-pub bounds-edges-count : goal.bounds-edges-count
-bounds-edges-count c = let few = known_few c.requires in omega arith
+pub bounds-contents-count : goal.bounds-contents-count
+bounds-contents-count c = let few = known_few c.requires in omega arith
 
 pub loop-place-init : goal.loop-place-init
 loop-place-init c =

@@ -5,4 +5,4 @@ use Rattle.tree.proofs.Pass.{Passing}
 use Rattle.report.proofs.listing.add_components.Given as goal
 
 abbrev pub invariant-loop-place : goal.invariant-loop-place
-invariant-loop-place l = Passing l.sheet l.count l.pass.pairs.now l.place l.offers × Lines l.sheet l.initial.page l.place l.page l.at
+invariant-loop-place l = Passing l.sheet l.contents.count l.pass.pairs.now l.place l.offers × Lines l.sheet l.initial.page l.place l.page l.at

@@ -2,7 +2,7 @@
 use native.Mathlib.Omega.{arith}
 use mathlib.Core.Path.{ap}
 use lib.ListN.{length}
-use Rattle.report.proofs.Pages.{copied}
+use Rattle.record.proofs.StoreLaws.{part_stored}
 use Rattle.report.proofs.listing.put_line.Goals as goal
 
 pub returns : goal.returns
@@ -11,6 +11,6 @@ returns c =
     let long = ap length line.bytes in
     record {
       place = omega arith;
-      page = rw (← line.bytes) (copied c.args.page.now c.args.at _ _ _ c.copy_from_slice.ensures.after (omega arith) (omega arith));
+      page = rw (c.copy_from_slice.ensures.after, ← line.bytes) (part_stored c.args.page.now c.args.at _ _ (omega arith) (omega arith));
       short = omega arith;
     }
