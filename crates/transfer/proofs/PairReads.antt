@@ -13,7 +13,7 @@ use Rattle.sheet.specs.Check.{check, pairs_of}
 use Rattle.sheet.specs.Contents.{edge_of, contents_of}
 use Rattle.sheet.proofs.ContentsLaws.{taken, edges_are, edges_within}
 use Rattle.sheet.proofs.WalkLaws.{rest_is}
-use Rattle.transfer.specs.declared.pair.PairReading.{PairReading}
+use Rattle.transfer.specs.Pairing.{PairReading}
 use Rattle.transfer.specs.declared.pair.Pairs.{Pairs}
 use Rattle.transfer.specs.Pairing.{no_pair, pairs_in, pair_table, pair_reading}
 use Rattle.transfer.proofs.PairsBehind.{few_pairs, pairs_stand_behind}

@@ -6,6 +6,9 @@ use native.Mathlib.Omega.{arith}
 use lib.ListN.{length, take, drop, set, replicate, length-append}
 use lib.Seq.{append_snoc, set_at}
 use Rattle.record.specs.declared.layout.Pair.{Pair}
+use Rattle.record.specs.declared.layout.Record as code
+use Rattle.record.specs.declared.layout.Record.TheVariants as variant
+use Rattle.record.specs.Record.{said}
 use Rattle.record.specs.Record.{Record}
 use Rattle.record.specs.Record.{ComponentRecord, TaskRecord, PairRecord, EndRecord, NoRecord}
 use Rattle.record.specs.Layout.{size_of, record_of}
@@ -34,6 +37,16 @@ none_then (ComponentRecord c) h ps = refl
 none_then (TaskRecord stated k) h ps = refl
 none_then (EndRecord count) h ps = refl
 none_then (NoRecord n) h ps = refl
+
+-- and so is a record of the code
+pub no_pair_said : (r : code.Record) → ((p : Pair) → r ≡ variant.Pair p → ⊥) → (p : Pair) → said r ≡ PairRecord p → ⊥
+no_pair_said (variant.Pair q) h p e = h q refl
+no_pair_said (variant.Component c) h p e = cc
+no_pair_said (variant.Task stated k) h p e = cc
+no_pair_said (variant.End count) h p e = cc
+
+pub no_pair_none : (n : ℕ) (p : Pair) → NoRecord n ≡ PairRecord p → ⊥
+no_pair_none n p e = cc
 
 pub record PairTaking (rest : List ℕ) (pairs : List Pair) (count place : ℕ) : Type 0 where
   pub ps : List Pair

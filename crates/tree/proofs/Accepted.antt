@@ -15,8 +15,8 @@ use Rattle.budget.specs.Limits.{limit}
 use Rattle.budget.specs.Refusal as refusal
 use Rattle.budget.proofs.Ranges.{unrefused}
 use Rattle.budget.proofs.Valid.{valid_interface_lem}
-use Rattle.judge.specs.declared.answer.Judged.{Judged}
-use Rattle.judge.specs.declared.answer.Judged.TheVariants.{Refused, Answered}
+use Rattle.judge.specs.numbers.Judged.{Judged}
+use Rattle.judge.specs.numbers.Judged.{Refused, Answered}
 use Rattle.judge.specs.declared.answer.Verdict.{Verdict}
 use Rattle.judge.specs.Capacity.{capacity_of}
 use Rattle.judge.specs.Judged.{judged_at, verdict_answer}

@@ -1,12 +1,12 @@
 -- The components of a sheet judged in one pass, by rising number: each after its children (RULES 7).
-use Rattle.std.specs.Prelude.{ℕ, zero, suc, cond, List, [], ◌∷◌, ◌++◌, eqb}
+use Rattle.std.specs.Prelude.{ℕ, zero, suc, cond, List, [], ◌∷◌, ◌++◌, eqb, Result, Ok, Err}
 use Rattle.budget.specs.Component.{refused}
 use Rattle.budget.specs.Refusal as refusal
+use Rattle.sheet.specs.declared.fault.Fault.{Fault}
 use Rattle.sheet.specs.Check.{pairs_of}
 use Rattle.transfer.specs.Reading.{reading}
-use Rattle.tree.specs.declared.place.Loaded as code
-use Rattle.tree.specs.declared.place.Placed as coded
-use Rattle.tree.specs.declared.place.Placed.TheVariants as code_placed
+use Rattle.tree.specs.declared.answer.Placed as answer
+use Rattle.tree.specs.declared.place.Loaded as place
 use Rattle.tree.specs.numbers.Load.{Load}
 use Rattle.tree.specs.numbers.Outcome.{Outcome}
 use Rattle.tree.specs.numbers.Offer.{Offer}
@@ -42,10 +42,11 @@ placing s k =
     let r = reading s k in
     cond (eqb r.refusal refusal.none) (Placed.Found r.component.number (outcome_at s k)) (Placed.Refused r.refusal r.place)
 
--- what is answered at a place, in the paper's numbers
-abbrev pub loaded_in : code.Loaded → Loaded
-loaded_in l = record { refusal = l.refusal; place = l.place; number = l.number; load = load_in l.workload }
+-- what is answered at a place, in the numbers of RULES 12; refused, the load is that of the component that RULES 11 fixes
+abbrev pub loaded_in : Result place.Loaded Fault → Loaded
+loaded_in (Ok l) = record { refusal = refusal.none; place = 0; number = l.number; load = load_in l.workload }
+loaded_in (Err f) = record { refusal = refusal.number_of f.refusal; place = f.place; number = 0; load = ready refused }
 
-abbrev pub placed_in : coded.Placed → Placed
-placed_in (code_placed.Refused n byte) = Placed.Refused n byte
-placed_in (code_placed.Found n o) = Placed.Found n (outcome_in o)
+abbrev pub placed_in : Result answer.Placed Fault → Placed
+placed_in (Ok p) = Placed.Found p.number (outcome_in p.outcome)
+placed_in (Err f) = Placed.Refused (refusal.number_of f.refusal) f.place

@@ -1,4 +1,4 @@
--- Answers of the tree in the paper's numbers; a reading beside each definition that speaks of them says what src/ answers in these.
+-- Answers of the tree in the numbers of RULES 12; a reading beside each definition that speaks of them says what src/ answers in these.
 pub mod Load
 pub mod Loaded
 pub mod Offer

@@ -1,9 +1,17 @@
 // What a component is answered in its tree (RULES 7).
-use judge::answer::Answer;
+use budget::refusal::Refusal;
+use judge::answer::Judgement;
 
-// Verdict and margin of a component's whole workload, or that it waits.
-#[derive(Clone, Copy)]
+// Verdict and margin of a component's whole workload, or that it waits for a child.
+#[derive(Clone, Copy, PartialEq, Eq)]
 pub enum Outcome {
     Waiting,
-    Judged(Answer),
+    Judged(Result<Judgement, Refusal>),
+}
+
+// What is answered of the component at a place: its number and its outcome.
+#[derive(Clone, Copy, PartialEq, Eq)]
+pub struct Placed {
+    pub number: u16,
+    pub outcome: Outcome,
 }

@@ -7,7 +7,7 @@ use crate::answer::Outcome;
 use crate::offer::Offer;
 use budget::component::Component;
 use budget::quantity::Units;
-use judge::answer::{Judged, Verdict};
+use judge::answer::Verdict;
 
 fn offering(component: Component, capacity: Option<Units>) -> Offer
     requires { IfSome capacity (λ u. u.0 < 4_294_967_295) }
@@ -29,9 +29,11 @@ pub(crate) fn offer_of(component: Component, outcome: Outcome) -> Offer
 {
     match outcome {
         Outcome::Waiting => offering(component, None),
-        Outcome::Judged(answer) => match answer.verdict {
-            Judged::Answered(capacity, Verdict::Accepted) => offering(component, Some(capacity)),
-            _ => offering(component, None),
+        Outcome::Judged(Err(_)) => offering(component, None),
+        Outcome::Judged(Ok(judgement)) => match judgement.verdict {
+            Verdict::Accepted => offering(component, Some(judgement.capacity)),
+            Verdict::Short(_) => offering(component, None),
+            Verdict::None => offering(component, None),
         },
     }
 }

@@ -4,7 +4,7 @@ ghost use Rattle.transfer.specs.ReadAt.{read_at};
 ghost use Rattle.tree.specs.Offer.{row_in};
 ghost use Rattle.tree.specs.Turned.{Turned, turn_in};
 
-use crate::answer::Outcome;
+use crate::answer::{Outcome, Placed};
 use crate::offer::Offer;
 use crate::offering::offer_of;
 use crate::outcome::judge_next;
@@ -19,28 +19,21 @@ pub struct Pass<'a> {
     pub pairs: &'a [Pair],
 }
 
-// The number of the component that was passed, and its outcome.
-#[derive(Clone, Copy)]
-pub struct Turn {
-    pub number: u16,
-    pub outcome: Outcome,
-}
-
 // Reads the component at a place between its edges, judges it, and notes its offer behind the others. Without a place in
 // the row it is as good as waiting.
-pub fn turn_at(pass: Pass<'_>, place: usize, offers: &mut [Offer]) -> Turn
+pub fn turn_at(pass: Pass<'_>, place: usize, offers: &mut [Offer]) -> Placed
     ensures turned { place < length offers.old → Turned (read_at pass.entry.sheet.now pass.entry.edges.now place) pass.entry.pairs.now place (row_in offers.old) (row_in offers.new) (turn_in result) }
     ensures full { length offers.old ≤ place → (result ≡ record { number = (read_at pass.entry.sheet.now pass.entry.edges.now place).number; outcome = Outcome.Waiting }) × (offers.new ≡ offers.old) }
 {
     let component = read_at(pass.sheet, pass.edges, place);
     let number = component.number;
     if offers.len() <= place {
-        return Turn {
+        return Placed {
             number,
             outcome: Outcome::Waiting,
         };
     }
     let outcome = judge_next(component, pass.pairs, &offers[..place]);
     offers[place] = offer_of(component, outcome);
-    Turn { number, outcome }
+    Placed { number, outcome }
 }

@@ -32,12 +32,7 @@ fn own_tasks(table: Table) -> Table
 {
     let count = table.count.min(Table::MOST);
     let mut tasks = table.tasks;
-    tasks[count..].fill(Task {
-        period: Time(0),
-        work: Units(0),
-        deadline: Time(0),
-        lateness: Time(0),
-    });
+    tasks[count..].fill(Task::NONE);
     Table { count, tasks }
 }
 
@@ -50,10 +45,7 @@ fn with_child(loaded: Component, offer: Offer, capacity: Units) -> Component
       table = cond (eqb o.capacity 0) loaded.table (appended loaded.table (as_task o));
     } }
 {
-    if capacity.0 == 0 {
-        return loaded;
-    }
-    if Table::MOST <= loaded.table.count {
+    if capacity.0 == 0 || Table::MOST <= loaded.table.count {
         return loaded;
     }
     let task = Task {

@@ -1,5 +1,5 @@
 -- What a component is answered in its tree.
-use Rattle.judge.specs.declared.answer.Answer.{Answer}
+use Rattle.judge.specs.numbers.Answer.{Answer}
 
 -- verdict and margin of a component's whole workload, or that it waits
 pub data Outcome : Type 0 where
