@@ -1,12 +1,11 @@
 -- Each refusal of the host's list stands before those behind it: that of the reading at the place, that of the component that is found there, that of
 -- the room; with all past, the reply on that component is stored.
 use Prim.Native.Nat.{ℕ}
-use mathlib.Core.Path.{◌≡◌, sym, ap, ◌∙◌}
-use mathlib.Core.Bool.{Bool, cond}
+use mathlib.Core.Path.{◌≡◌, ap}
 use mathlib.Core.List.{List}
 use native.Mathlib.Omega.{arith}
 use lib.Dec.{eqb}
-use borrow.Author.Tests.{eqb-true, eqb-false, eq-eqb, ne_eqb}
+use borrow.Author.Tests.{eqb-true, ne_eqb}
 use Rattle.jougsilver.specs.Answer.{answer_refusal, refusal_of, reply_of, reply_on}
 use Rattle.jougsilver.specs.Host.{host_refusal, host_reply}
 use Rattle.std.specs.Prelude.{Result, Ok, Err}

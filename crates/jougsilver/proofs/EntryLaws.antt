@@ -1,21 +1,17 @@
 -- The bytes of entries: how many they are, and that they stand one behind the other as they are put.
-use Prim.Native.Nat.{ℕ, zero, suc, ◌+◌, ◌*◌, ◌^◌, ◌≤◌, ◌<◌}
+use Prim.Native.Nat.{ℕ, zero, suc, ◌+◌, ◌*◌, ◌≤◌}
 use native.Mathlib.Numerals.{add-one}
 use native.Mathlib.Omega.{arith}
 use mathlib.Core.Path.{◌≡◌, refl, sym, ap, ap₂, ◌∙◌}
 use mathlib.Core.List.{List, [], ◌∷◌, ◌++◌, append-nil}
 use lib.Dec.{eqb}
-use lib.ListN.{length, take, drop, replicate, length-append, length-replicate, drop_of_length-le}
-use lib.Seq.{sets, sets-eq, length-sets, take_all}
+use lib.ListN.{length, replicate, length-append, length-replicate, drop_of_length-le}
+use lib.Seq.{sets, sets-eq, length-sets}
 use borrow.Rule.Slice.PartMut.{put_mid}
-use Rattle.std.proofs.lemmas.Slice.{put_mid-paste}
 use borrow.Author.Tests.{eq-eqb, ne_eqb}
-use mir.Syntax.{w64}
-use mir.Val.{Fits}
 use Rattle.jougsilver.specs.Answer.{refusal_of, reply_of, reply_on}
 use Rattle.jougsilver.specs.Host.{rest_on, entry_on, entry_at, entries_to}
 use Rattle.record.specs.declared.reply.Reply.{Reply}
-use Rattle.record.specs.Field.{encode}
 use Rattle.record.specs.Reply.{reply_row, reply_bytes}
 use Rattle.record.specs.Writing.{buffered, numbers_row, numbers_bytes, room_refusal}
 use Rattle.record.proofs.Cases.{cases}
@@ -101,7 +97,8 @@ one_more_entry s l k m {now} {new} {number} {byte} {o} e is judged edge n room f
     let next : entries_to s k ++ entry_on number o byte ≡ entries_to s (k + 1) = rw (is, judged, edge, add-one) in
     let size : length (entry_on number o byte) ≡ 36 = entry_length number o byte in
     let long : length now ≡ length l = ap length e ∙ length-sets l 0 (entries_to s k) in
-    rw f (part_stored now (36 * k) m (entry_on number o byte) (omega arith) (omega arith))
+    let here : put_mid (36 * k) m now new ≡ sets now (36 * k) (entry_on number o byte) = rw f (part_stored now (36 * k) m (entry_on number o byte) (omega arith) (omega arith)) in
+    here
     ∙ (ap₂ (λ (xs : List ℕ) (i : ℕ). sets xs i (entry_on number o byte)) e (omega (arith, entries_length s k))
     ∙ (sym (sets_append l 0 (entries_to s k) (entry_on number o byte))
     ∙ ap (λ (xs : List ℕ). sets l 0 xs) next))

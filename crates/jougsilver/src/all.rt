@@ -10,19 +10,19 @@ use record::write::write_numbers;
 use sheet::contents::Contents;
 use transfer::pair::read_pairs;
 use transfer::reply::write_reply;
-use tree::answer::Outcome;
+use tree::answer::Placed;
 use tree::offer::Offer;
 use tree::turn::{Pass, turn_at};
 
 // One component's refusal, its number, the byte where its record begins, and its reply, or as many zeros where it is refused. An entry has room for all of
 // it, so neither writer refuses.
-fn put_entry(number: u16, outcome: Outcome, byte: usize, entry: &mut [u8])
+fn put_entry(placed: Placed, byte: usize, entry: &mut [u8])
     requires { (length entry.old ≡ 36) × (byte < 4_294_967_296) }
-    ensures { entry.new ≡ entry_on number (outcome_in outcome) byte }
+    ensures { entry.new ≡ entry_on placed.number (outcome_in placed.outcome) byte }
 {
-    let reply = reply_of(number, outcome);
+    let reply = reply_of(placed);
     let first = number_in(reply);
-    let _ = write_numbers(entry, 0, first, u32::from(number), byte as u32);
+    let _ = write_numbers(entry, 0, first, u32::from(placed.number), byte as u32);
     match reply {
         Ok(fields) => {
             let _ = write_reply(entry, 12, fields);
@@ -47,8 +47,8 @@ pub(crate) fn put_all(sheet: &[u8], contents: &Contents, entries: &mut [u8])
     };
     let mut offers = [Offer::NONE; 256];
     for place in 0..count {
-        let turn = turn_at(pass, place, &mut offers);
+        let placed = turn_at(pass, place, &mut offers);
         let entry = &mut entries[36 * place..36 * place + 36];
-        put_entry(turn.number, turn.outcome, contents.edges[place], entry);
+        put_entry(placed, contents.edges[place], entry);
     }
 }

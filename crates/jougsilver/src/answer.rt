@@ -10,7 +10,7 @@ use budget::refusal::Refusal;
 use judge::answer::{Judgement, Margin, Verdict};
 use judge::signed::twos_complement;
 use transfer::reply::Reply;
-use tree::answer::Outcome;
+use tree::answer::{Outcome, Placed};
 
 // The number of an answer: 0, or its refusal's.
 pub(crate) fn number_in<T: Copy>(answer: Result<T, Refusal>) -> u32
@@ -48,11 +48,12 @@ fn judged_reply(number: u16, judgement: Judgement) -> Reply
 
 // The reply on a component, in the order of its fields; one that waits has a number and a code.
 #[tactic(auto, unfolding(crate::specs::Answer::reply_of))]
-pub(crate) fn reply_of(number: u16, outcome: Outcome) -> Result<Reply, Refusal>
-    ensures refusal { number_in result ≡ refusal_of (outcome_in outcome) }
-    ensures reply { IfOk result (λ r. r ≡ reply_of number (outcome_in outcome)) }
+pub(crate) fn reply_of(placed: Placed) -> Result<Reply, Refusal>
+    ensures refusal { number_in result ≡ refusal_of (outcome_in placed.outcome) }
+    ensures reply { IfOk result (λ r. r ≡ reply_of placed.number (outcome_in placed.outcome)) }
 {
-    match outcome {
+    let number = placed.number;
+    match placed.outcome {
         Outcome::Waiting => Ok(Reply {
             number,
             code: 3,

@@ -24,7 +24,7 @@ fn judge_at(sheet: &[u8], place: usize, reply: &mut [u8], at: usize) -> Result<u
     ensures bytes { reply.new ≡ buffered (host_refusal sheet.now place (length reply.old) at) reply.old at (host_reply sheet.now place) }
 {
     let placed = judge_place(sheet, place).map_err(|fault| fault.refusal)?;
-    let fields = reply_of(placed.number, placed.outcome)?;
+    let fields = reply_of(placed)?;
     write_reply(reply, at, fields)
 }
 

@@ -4,11 +4,9 @@ use native.Mathlib.Numerals.{add-one}
 use native.Mathlib.Omega.{arith}
 use mathlib.Core.Path.{◌≡◌, refl, sym, ap, ◌∙◌}
 use mathlib.Core.List.{List, ◌++◌}
-use lib.ListN.{length, take, drop, length-append}
+use lib.ListN.{length, length-append}
 use borrow.Author.Tests.{eq-eqb, ne_eqb}
-use lib.Seq.{sets, sets-eq, take_all}
-use borrow.Rule.Slice.PartMut.{put_mid}
-use Rattle.std.proofs.lemmas.Slice.{put_mid-paste}
+use lib.Seq.{sets}
 use Rattle.budget.specs.Refusal as refusal
 use Rattle.sheet.specs.Check.{Checked}
 use Rattle.sheet.specs.Check.{check}

@@ -11,7 +11,7 @@ ghost use Rattle.report.specs.Lines.{behind, refused_line, end_line, component_l
 use crate::line::Line;
 use judge::answer::{Judgement, Margin, Verdict};
 use sheet::fault::Fault;
-use tree::answer::Outcome;
+use tree::answer::{Outcome, Placed};
 
 // The one line of a refused sheet.
 pub(crate) fn refused_line(fault: Fault) -> Line
@@ -85,11 +85,11 @@ fn put_outcome(line: &mut Line, outcome: Outcome)
 }
 
 // The line of one component: its number, then its answer.
-pub(crate) fn component_line(number: u16, outcome: Outcome) -> Line
-    ensures { result ≡ component_line number (outcome_in outcome) }
+pub(crate) fn component_line(placed: Placed) -> Line
+    ensures { result ≡ component_line placed.number (outcome_in placed.outcome) }
 {
     let mut line = Line::new();
-    line.number(number);
-    put_outcome(&mut line, outcome);
+    line.number(placed.number);
+    put_outcome(&mut line, placed.outcome);
     line
 }

@@ -41,8 +41,8 @@ fn add_components(sheet: &[u8], contents: &Contents, page: &mut Page) -> usize
     let mut offers = [Offer::NONE; 256];
     let mut at = 0;
     for place in 0..count {
-        let turn = turn_at(pass, place, &mut offers);
-        at = put_line(page, at, &component_line(turn.number, turn.outcome));
+        let placed = turn_at(pass, place, &mut offers);
+        at = put_line(page, at, &component_line(placed));
     }
     at
 }

@@ -8,7 +8,7 @@ use Rattle.std.specs.Prelude.{Ok, Err}
 use Rattle.std.proofs.lemmas.Result.{err_from_is_err_and}
 use Rattle.budget.proofs.Refusals.{some}
 use Rattle.sheet.specs.Answered.{checked_in, contents_in}
-use Rattle.jougsilver.specs.Host.{all_refusal, all_reply, entries_to}
+use Rattle.jougsilver.specs.Host.{all_reply, entries_to}
 use Rattle.record.proofs.StoreLaws.{lent, room_given, stored_back}
 use Rattle.sheet.specs.Check.{check}
 use Rattle.sheet.specs.Contents.{contents_of}

@@ -1,15 +1,13 @@
 -- The refusals in their order; with all past, the writer is handed the reply on the component that is found.
 use borrow.Author.Rules.{rules}
-use mathlib.Core.Path.{◌≡◌, sym, ap, ◌∙◌}
+use mathlib.Core.Path.{◌≡◌, sym}
 use lib.ListN.{length}
-use Rattle.std.specs.Prelude.{Ok, Err}
 use Rattle.std.proofs.lemmas.Result.{err_from_is_err_and}
 use Rattle.budget.proofs.Refusals.{some}
-use Rattle.jougsilver.specs.Host.{host_refusal, host_reply}
+use Rattle.jougsilver.specs.Host.{host_reply}
 use Rattle.tree.specs.numbers.Placed.{Placed}
 use Rattle.tree.specs.Tree.{placing}
 use Rattle.tree.specs.Outcome.{outcome_in}
-use Rattle.record.specs.Writing.{written}
 use Rattle.sheet.proofs.Mapped.{mapped_ok, mapped_err}
 use Rattle.jougsilver.proofs.AnswerLaws.{unwritten, place_refused, component_refused, room_left, reply_left, written_number}
 use Rattle.jougsilver.proofs.judge_at.Goals as goal

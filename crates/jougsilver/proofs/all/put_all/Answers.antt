@@ -33,7 +33,7 @@ loop-place-preserved c =
     let known = c.requires.known in
     let l = c.loop-place in
     let next = c.loop-place-test.true in
-    let turned = c.turn_at-turn.ensures.turned in (
+    let turned = c.turn_at-placed.ensures.turned in (
       turn_more known l.invariant.0 next _ turned,
       one_more_entry _ _ l.place _ l.invariant.1 (turn_number known l.invariant.0 next _ turned) (turn_outcome known l.invariant.0 next _ turned) (known_edge known l.place (le_of_lt next)) (omega arith) (omega arith) c.put_entry.ensures,
     )

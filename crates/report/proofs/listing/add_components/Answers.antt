@@ -21,5 +21,5 @@ loop-place-preserved c =
     let known = c.requires in
     let l = c.loop-place.invariant in
     let next = c.loop-place-test.true in
-    let turned = c.turn_at-turn.ensures.turned in
+    let turned = c.turn_at-placed.ensures.turned in
     (turn_more known l.0 next _ turned, one_more_line _ _ _ (turn_number known l.0 next _ turned) (turn_outcome known l.0 next _ turned) l.1 (rw c.component_line.ensures at c.put_line-at.ensures))

@@ -1,5 +1,4 @@
 -- After k turns the page holds the lines of the first k components, and the row their offers.
-use lib.ListN.{take}
 use Rattle.report.specs.inner.Paged.{Lines}
 use Rattle.tree.proofs.Pass.{Passing}
 use Rattle.report.proofs.listing.add_components.Given as goal
