@@ -1,5 +1,6 @@
 // The operations on a component whose stored common period is known to be right: made, read or edited by an operation of these crates. They answer as
 // the public ones do and don't work the true value out to compare it; that the stored one is right goes with the component.
+// Each differs from its public one in the check that it makes first: a parameter for that check would be longer than both.
 ghost use Rattle.std.specs.Prelude.{◌≡◌};
 ghost use Rattle.budget.specs.Answered.{common_period_in};
 ghost use Rattle.budget.specs.Component.{common_period_answer};

@@ -1,5 +1,5 @@
 // Judging a component whose stored common period is known to be right (budget::known): the answers of the public operations, with the common period read
-// and not worked out.
+// and not worked out. Each differs from its public one in the one call that asks for it: a parameter for that call would be longer than both.
 ghost use Rattle.std.specs.Prelude.{◌≡◌};
 ghost use Rattle.judge.specs.Answer.{answer_in, judge_answer};
 ghost use Rattle.judge.specs.Capacity.{capacity_answer, smallest_in};

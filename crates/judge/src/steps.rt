@@ -22,7 +22,8 @@ pub struct Step {
     pub demand: u32,
 }
 
-// A walk over the step instants of some tasks: a row for each, the instant to be passed next and the demand before it.
+// A walk over the step instants of some tasks: a row for each, the instant to be passed next and the demand before it. The count stands beside the rows
+// because memory is fixed.
 #[derive(Drop)]
 pub struct Steps {
     pub count: usize,

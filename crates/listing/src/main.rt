@@ -13,6 +13,7 @@ fn read_sheet(input: &mut impl Read, row: &mut [u8]) -> io::Result<usize>
     ensures { IfOk result (λ held. held ≤ length row.new) }
 {
     let mut held = 0;
+    // No index is counted: a read says how far it came.
     while held < row.len() {
         let count = input.read(&mut row[held..])?;
         if count == 0 {
