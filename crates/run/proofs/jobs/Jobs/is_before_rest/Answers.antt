@@ -9,7 +9,7 @@ use native.Mathlib.Omega.{arith}
 use Rattle.budget.specs.declared.task.Task.{Task}
 use Rattle.budget.specs.Task.{T}
 use Rattle.run.specs.inner.Columns.{job_in, jobs_in}
-use Rattle.run.specs.Job.{task_of, in_order, apart, before_all}
+use Rattle.run.specs.Job.{task_of, apart, before_all}
 use Rattle.run.proofs.JobRules.{before_from, before_end}
 use Rattle.run.proofs.Rows.{count}
 use Rattle.run.proofs.jobs.Jobs.is_before_rest.Goals as goal
@@ -19,7 +19,7 @@ use Rattle.run.proofs.jobs.Jobs.is_before_rest.Goals.{After-is_before}
 step : (c : After-is_before) (ks : List Task) → T (task_of ks (job_in c.at-job.result)) ≡ c.args.period
     → before_all ks (job_in c.at-job.result) (drop (suc c.args.i) (jobs_in c.args.self.now))
     ≡ (c.is_before.result && before_all ks (job_in c.at-job.result) (drop (c.loop-k.k + 1) (jobs_in c.args.self.now)))
-unfolding in_order apart
+unfolding apart
 step c ks e =
     let jobs = c.args.self.now in
     let inside : c.loop-k.k < length (jobs_in jobs) = omega (arith, count jobs c.requires.0) in
