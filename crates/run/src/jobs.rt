@@ -99,12 +99,7 @@ impl Jobs<'_> {
         ensures { (ks : List Task) → T (task_of ks (get_or (jobs_in self.now) i no_job)) ≡ period → result ≡ before_all ks (get_or (jobs_in self.now) i no_job) (drop (suc i) (jobs_in self.now)) }
     {
         let job = self.at(i);
-        for k in i + 1..self.tasks.len() {
-            if !job.is_before(self.at(k), period) {
-                return false;
-            }
-        }
-        true
+        (i + 1..self.tasks.len()).all(|k| job.is_before(self.at(k), period))
     }
 
     // Whether the job at place i keeps the rules: its task is there, its work is 1 to C, it is ready in time, and the jobs after it are in order
@@ -125,12 +120,7 @@ impl Jobs<'_> {
         requires { OneLength self.now }
         ensures { result ≡ legal_arrival table.now (jobs_in self.now) }
     {
-        for i in 0..self.tasks.len() {
-            if !self.is_legal_at(table, i) {
-                return false;
-            }
-        }
-        true
+        (0..self.tasks.len()).all(|i| self.is_legal_at(table, i))
     }
 
     // Whether each job is released before the trace ends.
