@@ -3,4 +3,7 @@
 #![tactic(auto)]
 
 pub mod given;
+pub mod print;
+pub mod rows;
+pub mod shown;
 pub mod words;

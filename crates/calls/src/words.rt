@@ -3,7 +3,7 @@
 // What is left to read of a line.
 #[derive(Clone, Copy)]
 pub struct Words<'a> {
-    rest: &'a [u8],
+    pub(crate) rest: &'a [u8],
 }
 
 impl<'a> Words<'a> {
@@ -43,7 +43,9 @@ impl<'a> Words<'a> {
         self.before(|byte| *byte < b'0')
             .iter()
             .fold(0, |value: u64, byte| {
-                value.saturating_mul(10).saturating_add(u64::from(byte % 16))
+                value
+                    .saturating_mul(10)
+                    .saturating_add(u64::from(byte % 16))
             })
     }
 
