@@ -3,41 +3,29 @@
 
 pub mod shown;
 
-use calls::{given, print, words};
-use judge::answer::{Answer, Smallest};
+use calls::print::Out;
+use calls::words::Words;
+use judge::answer::Smallest;
 use judge::{capacity, judging};
 
-fn put_judged(out: &mut [u8], answer: Answer) -> usize {
-    let at = print::put_status(out, shown::refusal_of(answer));
-    shown::put_answer(out, at, answer)
+pub fn judge(words: &mut Words<'_>, out: &mut Out) {
+    let component = words.component();
+    let answer = judging::judge(component);
+    out.status(shown::refusal_of(answer));
+    shown::put_answer(out, answer);
 }
 
-fn judge(line: &[u8], at: usize, out: &mut [u8]) -> usize {
-    let given = given::read_component(line, at);
-    put_judged(out, judging::judge(given.value))
-}
-
-fn put_smallest(out: &mut [u8], answered: Smallest) -> usize {
-    match answered {
-        Smallest::Refused(refusal) => print::put_status(out, refusal),
-        Smallest::Found(units) => print::put_answer(out, 0, units.0),
-        Smallest::None => print::put_text(out, 0, b"ok none"),
+pub fn capacity(words: &mut Words<'_>, out: &mut Out) {
+    let component = words.component();
+    match capacity::smallest_capacity(component) {
+        Smallest::Refused(refusal) => out.status(refusal),
+        Smallest::Found(units) => {
+            out.status(0);
+            out.word(units.0);
+        }
+        Smallest::None => {
+            out.status(0);
+            out.word("none");
+        }
     }
-}
-
-fn capacity(line: &[u8], at: usize, out: &mut [u8]) -> usize {
-    let given = given::read_component(line, at);
-    put_smallest(out, capacity::smallest_capacity(given.value))
-}
-
-// Puts the answer to a call, and answers the place after it; 0 where the line is no call of this crate.
-pub fn answer(line: &[u8], out: &mut [u8]) -> usize {
-    let at = words::after_word(line, 0);
-    if words::is_word(line, b"judge") {
-        return judge(line, at, out);
-    }
-    if words::is_word(line, b"capacity") {
-        return capacity(line, at, out);
-    }
-    0
 }

@@ -1,19 +1,17 @@
 // What an answer on a sheet shows.
-use calls::{print, shown};
+use calls::print::Out;
 use transfer::read::Reading;
 
-// Puts `ok`, or `refused` with its number and place.
-pub fn put_fault(out: &mut [u8], refusal: u16, place: usize) -> usize {
-    let at = print::put_status(out, refusal);
-    if refusal == 0 {
-        return at;
+// `ok`, or `refused` with its number and place.
+pub fn put_fault(out: &mut Out, refusal: u16, place: usize) {
+    out.status(refusal);
+    if refusal != 0 {
+        out.word(place);
     }
-    print::put_number(out, at, place as u64)
 }
 
 // The answer of a reading.
-pub fn put_reading(out: &mut [u8], answered: Reading) -> usize {
-    let component = answered.component;
-    let at = put_fault(out, answered.refusal, answered.place);
-    shown::put_component(out, at, component)
+pub fn put_reading(out: &mut Out, answered: Reading) {
+    put_fault(out, answered.refusal, answered.place);
+    out.component(answered.component);
 }

@@ -1,77 +1,62 @@
 // Answers the calls on standard input, a line each, over the operations of the other crates (docs/CALLS.md).
 #![tactic(auto)]
 
-use calls::print;
+use calls::print::Out;
+use calls::words::Words;
+use calls_budget::{edits, numbers};
+use calls_sheet::{sheets, writers};
 use lines::Held;
+use std::io;
 use std::io::Read;
 
-// The answer to a line, tried crate by crate.
-fn answer_text(line: &[u8], out: &mut [u8]) -> usize {
-    let at = calls_budget::answer(line, out);
-    if at > 0 {
-        return at;
+// The answer to a line, by its first word.
+fn answer(line: &[u8], out: &mut Out) {
+    let mut line = Words::of(line);
+    let words = &mut line;
+    match words.word() {
+        b"check_task" => numbers::check_task(words, out),
+        b"check_table" => numbers::check_table(words, out),
+        b"check_interface" => numbers::check_interface(words, out),
+        b"check_component" => numbers::check_component(words, out),
+        b"dedicated" => numbers::dedicated(out),
+        b"common_divisor" => numbers::common_divisor(words, out),
+        b"common_period" => numbers::common_period(words, out),
+        b"demand" => numbers::demand(words, out),
+        b"supply" => numbers::supply(words, out),
+        b"make" => edits::make(words, out),
+        b"add_task" => edits::add_task(words, out),
+        b"remove_task" => edits::remove_task(words, out),
+        b"judge" => calls_judge::judge(words, out),
+        b"capacity" => calls_judge::capacity(words, out),
+        b"legal" => calls_run::legal(words, out),
+        b"walk" => calls_run::walk(words, out),
+        b"sheet" => sheets::sheet(words, out),
+        b"part" => sheets::part(words, out),
+        b"read" => sheets::read(words, out),
+        b"read_pair" => sheets::read_pair(words, out),
+        b"write" => writers::write(words, out),
+        b"write_end" => writers::write_end(words, out),
+        b"write_pair" => writers::write_pair(words, out),
+        b"edit" => calls_edit::edit(words, out),
+        b"workload" => calls_tree::workload(words, out),
+        b"tree" => calls_tree::tree(words, out),
+        b"host" => calls_host::host(words, out),
+        b"host_check" => calls_host::host_check(words, out),
+        b"host_all" => calls_host::host_all(words, out),
+        _ => out.unknown(),
     }
-    let at = calls_judge::answer(line, out);
-    if at > 0 {
-        return at;
-    }
-    let at = calls_run::answer(line, out);
-    if at > 0 {
-        return at;
-    }
-    let at = calls_sheet::answer(line, out);
-    if at > 0 {
-        return at;
-    }
-    let at = calls_edit::answer(line, out);
-    if at > 0 {
-        return at;
-    }
-    let at = calls_tree::answer(line, out);
-    if at > 0 {
-        return at;
-    }
-    let at = calls_host::answer(line, out);
-    if at > 0 {
-        return at;
-    }
-    print::put_text(out, 0, b"unknown")
 }
 
-// Writes the first bytes of a row to standard output, and says whether they were written.
-fn write_start(rt: &impl Print, row: &[u8], n: usize) -> bool {
-    if n > row.len() {
-        return false;
+// Writes the answer to a line; where that fails, says so on standard error.
+fn write_answer(rt: &(impl Print + Eprint), line: &[u8], out: &mut Out) -> io::Result<()> {
+    out.clear();
+    answer(line, out);
+    out.end_line();
+    let written = rt.write_all(out.as_slice());
+    if written.is_err() {
+        let _ = rt.eprintln("writing an answer failed; stopped");
     }
-    rt.write_all(&row[0..n]).is_ok()
-}
-
-// Writes the answer to a line, and says whether it was written; else says so on standard error.
-fn write_answer(rt: &(impl Print + Eprint), line: &[u8], out: &mut [u8]) -> bool {
-    let at = answer_text(line, out);
-    let end = print::put_byte(out, at, b'\n');
-    if write_start(rt, out, end) {
-        return true;
-    }
-    let _ = rt.eprintln("writing an answer failed; stopped");
-    false
-}
-
-// Answers the line that ends at a place, where it is one.
-fn answer_line(
-    rt: &(impl Print + Eprint),
-    row: &[u8],
-    start: usize,
-    end: usize,
-    out: &mut [u8],
-) -> bool {
-    if start > end {
-        return false;
-    }
-    if end > row.len() {
-        return false;
-    }
-    write_answer(rt, &row[start..end], out)
+    written
 }
 
 // One turn: answers the next whole line, or reads where none is held.
@@ -79,32 +64,34 @@ fn turn(
     rt: &(impl Print + Eprint),
     input: &mut impl Read,
     row: &mut [u8],
-    out: &mut [u8],
+    out: &mut Out,
     held: Held,
 ) -> Held {
-    let held_end = held.end;
-    if held_end > row.len() {
-        return lines::stopped(held_end);
+    let Some(bytes) = row.get(..held.end) else {
+        return lines::stopped(held.end);
+    };
+    let end = lines::line_end(bytes, held.seen);
+    if end >= held.end {
+        return lines::read_more(rt, input, row, held);
     }
-    let end = lines::line_end(&row[0..held_end], held.seen);
-    if end < held_end {
-        if answer_line(rt, row, held.start, end, out) {
-            return lines::after_line(held, end);
-        }
-        return lines::stopped(held_end);
+    match bytes.get(held.start..end) {
+        Some(line) if write_answer(rt, line, out).is_ok() => lines::after_line(held, end),
+        _ => lines::stopped(held.end),
     }
-    lines::read_more(rt, input, row, held)
 }
 
 // Answers what is left where the input is over: a last line may lack its end.
-fn answer_last(rt: &(impl Print + Eprint), row: &[u8], out: &mut [u8], held: Held) {
-    if held.start < held.end {
-        answer_line(rt, row, held.start, held.end, out);
+fn answer_last(rt: &(impl Print + Eprint), row: &[u8], out: &mut Out, held: Held) {
+    match row.get(held.start..held.end) {
+        Some([]) | None => {}
+        Some(line) => {
+            let _ = write_answer(rt, line, out);
+        }
     }
 }
 
 // A proved loop has to end, and nothing says that the input does: the turns are counted up to a number that none reaches.
-fn answer_all(rt: &(impl Print + Eprint), input: &mut impl Read, row: &mut [u8], out: &mut [u8]) {
+fn answer_all(rt: &(impl Print + Eprint), input: &mut impl Read, row: &mut [u8], out: &mut Out) {
     let mut held = lines::nothing();
     for _ in 0..u64::MAX {
         held = turn(rt, input, row, out, held);
@@ -115,9 +102,9 @@ fn answer_all(rt: &(impl Print + Eprint), input: &mut impl Read, row: &mut [u8],
     }
 }
 
-// The row has room for the longest call. The longest answer is a part of a sheet, two digits for each of its 65,536 bytes.
+// The row has room for the longest call.
 fn main(rt: HostRuntime) {
     let mut row = [0u8; 262144];
-    let mut out = [0u8; 140000];
+    let mut out = Out::new();
     answer_all(&rt, &mut rt.stdin(), &mut row, &mut out);
 }

@@ -1,0 +1,39 @@
+// Calls that write into a buffer, which is as much of the lent one as the call says, filled with a5.
+use calls::print::Out;
+use calls::words::Words;
+use transfer::pair::{self, Pair};
+use transfer::write::{self, Written};
+
+// Writes into the buffer from the place on that the call says, and shows the answer and the buffer.
+fn written<F: FnOnce(&mut [u8], usize) -> Written>(words: &mut Words<'_>, out: &mut Out, write: F)
+    requires { F.IsAlwaysCallable write }
+{
+    let mut buffer = [0xa5u8; 4096];
+    match buffer.get_mut(..words.place()) {
+        Some(part) => {
+            let answered = write(part, words.place());
+            out.status(answered.refusal);
+            out.word(answered.place);
+            out.row(part);
+        }
+        None => out.unknown(),
+    }
+}
+
+pub fn write(words: &mut Words<'_>, out: &mut Out) {
+    let component = words.component();
+    written(words, out, |part, at| write::write_component(part, at, component));
+}
+
+pub fn write_end(words: &mut Words<'_>, out: &mut Out) {
+    let count = words.place();
+    written(words, out, |part, at| write::write_end(part, at, count));
+}
+
+pub fn write_pair(words: &mut Words<'_>, out: &mut Out) {
+    let pair = Pair {
+        child: words.component_number(),
+        parent: words.component_number(),
+    };
+    written(words, out, |part, at| pair::write_pair(part, at, pair));
+}
