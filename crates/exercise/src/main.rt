@@ -5,7 +5,7 @@ use calls::print::Out;
 use calls::words::Words;
 use calls_budget::{edits, numbers};
 use calls_sheet::{sheets, writers};
-use lines::Held;
+use lines::{Held, line_end};
 use std::io;
 use std::io::Read;
 
@@ -68,15 +68,15 @@ fn turn(
     held: Held,
 ) -> Held {
     let Some(bytes) = row.get(..held.end) else {
-        return lines::stopped(held.end);
+        return Held::stopped(held.end);
     };
-    let end = lines::line_end(bytes, held.seen);
+    let end = line_end(bytes, held.seen);
     if end >= held.end {
-        return lines::read_more(rt, input, row, held);
+        return held.read_more(rt, input, row);
     }
     match bytes.get(held.start..end) {
-        Some(line) if write_answer(rt, line, out).is_ok() => lines::after_line(held, end),
-        _ => lines::stopped(held.end),
+        Some(line) if write_answer(rt, line, out).is_ok() => held.after_line(end),
+        _ => Held::stopped(held.end),
     }
 }
 
@@ -92,7 +92,7 @@ fn answer_last(rt: &(impl Print + Eprint), row: &[u8], out: &mut Out, held: Held
 
 // A proved loop has to end, and nothing says that the input does: the turns are counted up to a number that none reaches.
 fn answer_all(rt: &(impl Print + Eprint), input: &mut impl Read, row: &mut [u8], out: &mut Out) {
-    let mut held = lines::nothing();
+    let mut held = Held::nothing();
     for _ in 0..u64::MAX {
         held = turn(rt, input, row, out, held);
         if !held.open {
