@@ -6,12 +6,13 @@ mod edits;
 mod shown;
 
 use calls::print::Out;
+use calls::rows::ROOM;
 use calls::words::Words;
 use calls_sheet::shown::put_reading;
 use transfer::read;
 
 pub fn edit(words: &mut Words<'_>, out: &mut Out) {
-    let mut bytes = [0u8; 65_600];
+    let mut bytes = [0u8; ROOM];
     let sheet = words.row(&mut bytes);
     let place = words.place();
     match read::read_component(sheet, place) {

@@ -4,6 +4,7 @@
 use budget::quantity::Units;
 use budget::refusal::Refusal;
 use calls::print::Out;
+use calls::rows::ROOM;
 use calls::words::Words;
 use run::jobs::Jobs;
 use run::walk::{Walked, walk as walk_jobs};
@@ -12,7 +13,7 @@ use trace::legal::is_legal;
 pub fn legal(words: &mut Words<'_>, out: &mut Out) {
     let interface = words.interface();
     let offset = words.time();
-    let mut bytes = [0u8; 65_600];
+    let mut bytes = [0u8; ROOM];
     let trace = words.row(&mut bytes);
     let answered = is_legal(interface, offset, trace);
     out.status(&answered);
@@ -55,7 +56,7 @@ pub fn walk(words: &mut Words<'_>, out: &mut Out) {
         ready: words.list(&mut ready),
         works: words.list(&mut works),
     };
-    let mut bytes = [0u8; 65_600];
+    let mut bytes = [0u8; ROOM];
     let trace = words.row(&mut bytes);
     let mut left = [77u32; 2048];
     match left.get_mut(..words.place()) {

@@ -3,6 +3,7 @@
 
 use budget::component::refused;
 use calls::print::Out;
+use calls::rows::ROOM;
 use calls::words::Words;
 use calls_judge::shown::put_judgement;
 use calls_sheet::shown::put_fault;
@@ -11,7 +12,7 @@ use tree::answer::Outcome;
 use tree::place::{judge_place, load_place};
 
 pub fn workload(words: &mut Words<'_>, out: &mut Out) {
-    let mut bytes = [0u8; 65_600];
+    let mut bytes = [0u8; ROOM];
     let sheet = words.row(&mut bytes);
     let place = words.place();
     match load_place(sheet, place) {
@@ -46,7 +47,7 @@ fn put_outcome(out: &mut Out, number: u16, outcome: Outcome) {
 }
 
 pub fn tree(words: &mut Words<'_>, out: &mut Out) {
-    let mut bytes = [0u8; 65_600];
+    let mut bytes = [0u8; ROOM];
     let sheet = words.row(&mut bytes);
     let place = words.place();
     match judge_place(sheet, place) {
