@@ -1,12 +1,12 @@
 -- What an amount of service is answered as: the refusal of what is asked about, then that of the instant, then the amount. Demand and supply answer by the same tests, so the laws are over the refusal and the amount.
 use Prim.Native.Nat.{ℕ, ◌≤◌}
-use mathlib.Core.Path.{◌≡◌, refl}
+use mathlib.Core.Path.{◌≡◌, refl, sym}
 use mathlib.Core.Bool.{Bool, true, false, cond}
 use native.Mathlib.Omega.{arith}
 use lib.Dec.{leb, eqb}
-use borrow.Author.Tests.{le-leb, leb-true, eqb-true, eqb-false, ne_eqb}
+use borrow.Author.Tests.{le-leb, leb-true, ne_eqb}
 use Rattle.budget.specs.declared.interface.Interface.{Interface}
-use Rattle.budget.specs.declared.quantity.Amount.{Amount}
+use Rattle.budget.specs.Answered.{Amount}
 use Rattle.budget.specs.declared.task.Table.{Table}
 use Rattle.budget.specs.Demand.{demand, demand_refusal, demand_answer}
 use Rattle.budget.specs.Interface.{interface_refusal, valid_interface}
@@ -30,21 +30,23 @@ failed false h = refl
 abbrev pub at_instant : ℕ → ℕ → ℕ
 at_instant n t = cond (eqb n refusal.none) (cond (leb t limit) refusal.none refusal.range) n
 
--- there is none where there is none of either
-pub instant_passed : (n t : ℕ) → at_instant n t ≡ refusal.none → (n ≡ refusal.none) × (t ≤ limit)
-instant_passed n t = go (eqb n refusal.none) (leb t limit) refl refl
-  where
-    go : (b w : Bool) → eqb n refusal.none ≡ b → leb t limit ≡ w → cond b (cond w refusal.none refusal.range) n ≡ refusal.none → (n ≡ refusal.none) × (t ≤ limit)
-    go true true x y e = (eqb-true _ _ x, leb-true _ _ y)
-    go true false x y e = absurd (omega (arith, e))
-    go false w x y e = absurd (eqb-false _ _ x e)
+-- what is asked about decides, and where it is not refused the instant does
+pub at_first : (n m t : ℕ) → n ≡ m → (n ≡ refusal.none → ⊥) → n ≡ at_instant m t
+at_first n m t e h = rw (← e, ne_eqb n refusal.none h)
+
+pub at_second : (n m t : ℕ) → refusal.none ≡ m → n ≡ cond (leb t limit) refusal.none refusal.range → n ≡ at_instant m t
+at_second n m t e f = rw (← e) f
+
+-- an instant that is not refused is within the limit
+pub instant_passed : (t : ℕ) → refusal.none ≡ cond (leb t limit) refusal.none refusal.range → t ≤ limit
+instant_passed t e = leb-true t limit (passed (leb t limit) (sym e))
 
 -- the answer there, v being the amount
 abbrev pub answer : ℕ → ℕ → Amount
 answer r v = record { refusal = r; units = record { 0 = cond (eqb r refusal.none) v 0 } }
 
-pub answer_refused : (r v : ℕ) → (r ≡ refusal.none → ⊥) → answer r v ≡ record { refusal = r; units = record { 0 = 0 } }
-answer_refused r v h = rw (ne_eqb r refusal.none h)
+pub answer_refused : (n r v : ℕ) → n ≡ r → (n ≡ refusal.none → ⊥) → record { refusal = n; units = record { 0 = 0 } } ≡ answer r v
+answer_refused n r v e h = rw (← e, ne_eqb n refusal.none h)
 
 -- within the limits the supply is answered
 pub supply_given : (i : Interface) (t : ℕ) → valid_interface i ≡ true → t ≤ limit → supply_answer i t ≡ record { refusal = refusal.none; units = record { 0 = supply i t } }

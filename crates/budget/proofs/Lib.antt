@@ -9,6 +9,7 @@ pub mod CommonLaws
 pub mod EditRight
 pub mod Places
 pub mod Ranges
+pub mod Refusals
 pub mod Periods
 pub mod TableLaws
 pub mod Edits

@@ -1,9 +1,9 @@
 -- Tables as they are returned, zero from the count on: the tasks read back, and a task appended to such a table gives such a table.
-use Prim.Native.Nat.{ℕ, suc, ◌+◌, ◌-◌, ◌<◌}
+use Prim.Native.Nat.{ℕ, suc, ◌+◌, ◌-◌, ◌≤◌, ◌<◌}
 use mathlib.Core.Path.{◌≡◌, sym, ◌∙◌, ap}
 use mathlib.Core.List.{List, [], ◌∷◌, ◌++◌}
 use native.Mathlib.Omega.{arith}
-use lib.ListN.{length, replicate, length-append}
+use lib.ListN.{length, replicate, length-append, length-take}
 use lib.Seq.{set-append_seam, append_snoc, take-append_seam}
 use borrow.Author.Tests.{lt-ltb}
 use Rattle.budget.specs.declared.task.Task.{Task}
@@ -39,3 +39,8 @@ pub append_returned : (t : Table) (ks : List Task) (k : Task) → t ≡ table_of
 unfolding appended table_of
 append_returned t ks k e h =
     rw (e, lt-ltb _ _ h, length-append ks (k ∷ []), places_left (length ks) h, set-append_seam, append_snoc)
+
+-- a table in range has no more tasks than it has places for
+pub few : (t : Table) → t.count ≤ most_tasks → length (tasks_of t) ≤ most_tasks
+unfolding tasks_of
+few t h = omega (arith, length-take t.count t.tasks)

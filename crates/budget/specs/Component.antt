@@ -6,7 +6,7 @@ use Rattle.budget.specs.declared.component.Capacity.TheVariants.{Stated, Asked}
 use Rattle.budget.specs.declared.component.Component.{Component}
 use Rattle.budget.specs.declared.interface.Interface.{Interface}
 use Rattle.budget.specs.declared.task.Task.{Task}
-use Rattle.budget.specs.declared.common_period.CommonPeriod.{CommonPeriod}
+use Rattle.budget.specs.Answered.{CommonPeriod}
 use Rattle.budget.specs.Common.{common_of, same_common}
 use Rattle.budget.specs.CommonPeriod.{common_period}
 use Rattle.budget.specs.Interface.{valid_interface}

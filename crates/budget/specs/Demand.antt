@@ -1,7 +1,7 @@
 -- Demand at t: the most work that can become ready and fall due within t slots (RULES 4).
 use Rattle.std.specs.Prelude.{ℕ, ◌+◌, ◌-◌, ◌*◌, ◌/◌, cond, List, [], ◌∷◌, leb, eqb}
 use Rattle.budget.specs.declared.task.Task.{Task}
-use Rattle.budget.specs.declared.quantity.Amount.{Amount}
+use Rattle.budget.specs.Answered.{Amount}
 use Rattle.budget.specs.declared.task.Table.{Table}
 use Rattle.budget.specs.Limits.{limit}
 use Rattle.budget.specs.Refusal as refusal

@@ -1,8 +1,8 @@
 -- Adding and removing a task (RULES 11, and 13 for what is refused first).
-use Rattle.std.specs.Prelude.{ℕ, suc, cond, ◌&&◌, List, [], ◌∷◌, ◌++◌, take, drop, leb, ltb, eqb}
+use Rattle.std.specs.Prelude.{ℕ, suc, cond, Result, Ok, Err, ◌≡◌, ◌&&◌, List, [], ◌∷◌, ◌++◌, take, drop, leb, ltb, eqb}
 use Rattle.budget.specs.declared.component.Component.{Component}
 use Rattle.budget.specs.declared.task.Task.{Task}
-use Rattle.budget.specs.declared.edit.Edited.{Edited}
+use Rattle.budget.specs.declared.refusal.Refusal.{Refusal}
 use Rattle.budget.specs.Component.{valid_component, is_right, with_tasks, refused}
 use Rattle.budget.specs.Limits.{most_tasks}
 use Rattle.budget.specs.Refusal as refusal
@@ -33,6 +33,19 @@ removing_refusal c at =
 -- the tasks behind the place close the gap
 unfoldable pub removed : List Task → ℕ → List Task
 removed ks at = take at ks ++ drop (suc at) ks
+
+-- what an edit answers in the numbers of RULES 11 and 12: the refusal's number, 0 for none, and the component, or the one that stands for none
+pub record Edited : Type 0 where
+  pub refusal : ℕ
+  pub component : Component
+
+abbrev pub edited_in : Result Component Refusal → Edited
+edited_in (Ok c) = record { refusal = refusal.none; component = c }
+edited_in (Err r) = record { refusal = refusal.number_of r; component = refused }
+
+-- no two answers of an edit have the same number and component
+abbrev pub EditsApart : Type 0
+EditsApart = (a b : Result Component Refusal) → edited_in a ≡ edited_in b → a ≡ b
 
 -- what an edit answers: the component with its new tasks and their common period, or the refusal and the component that stands for none
 unfoldable pub edited : ℕ → Component → List Task → Edited

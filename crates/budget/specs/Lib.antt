@@ -1,3 +1,4 @@
+pub mod Answered
 pub mod Common
 pub mod CommonPeriod
 pub mod Component

@@ -3,7 +3,7 @@ use Rattle.std.specs.Prelude.{ℕ}
 use Rattle.budget.specs.declared.common.Common.TheVariants.{Above}
 use Rattle.budget.specs.declared.component.Capacity.{Capacity}
 use Rattle.budget.specs.declared.component.Component.{Component}
-use Rattle.budget.specs.declared.edit.Edited.{Edited}
+use Rattle.budget.specs.Edit.{Edited}
 use Rattle.budget.specs.declared.quantity.Time.{Time}
 use Rattle.budget.specs.declared.task.Table.{Table}
 use Rattle.budget.specs.Component.{range_refusal}

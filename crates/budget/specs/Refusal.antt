@@ -1,5 +1,7 @@
--- The refusal numbers by name (RULES 12). 0 stands for no refusal.
-use Rattle.std.specs.Prelude.{ℕ}
+-- The refusal numbers by name (RULES 12), and how an answer is read as such a number. 0 stands for no refusal.
+use Rattle.std.specs.Prelude.{ℕ, Result, Ok, Err, ◌≡◌}
+use Rattle.budget.specs.declared.refusal.Refusal.{Refusal}
+use Rattle.budget.specs.declared.refusal.Refusal.TheVariants as Refusal
 
 abbrev pub none : ℕ
 none = 0
@@ -71,3 +73,32 @@ pair = 16
 -- a stored common period that is not the component's own
 abbrev pub common : ℕ
 common = 17
+
+-- the number of each refusal of the code
+abbrev pub number_of : Refusal → ℕ
+number_of Refusal.Cut = cut
+number_of Refusal.Kind = kind
+number_of Refusal.Length = bad_length
+number_of Refusal.NoComponent = no_component
+number_of Refusal.Number = number
+number_of Refusal.Tasks = tasks
+number_of Refusal.Components = components
+number_of Refusal.End = end
+number_of Refusal.Range = range
+number_of Refusal.Long = long
+number_of Refusal.Room = room
+number_of Refusal.Jobs = jobs
+number_of Refusal.Trace = bad_trace
+number_of Refusal.Sheet = sheet
+number_of Refusal.Place = place
+number_of Refusal.Pair = pair
+number_of Refusal.Common = common
+
+-- the number that an answer has: 0, or that of its refusal
+abbrev pub number_in : {A : Type 0} → Result A Refusal → ℕ
+number_in (Ok a) = none
+number_in (Err r) = number_of r
+
+-- a number says which refusal it is: no two have the same
+abbrev pub NumbersApart : Type 0
+NumbersApart = (a b : Refusal) → number_of a ≡ number_of b → a ≡ b

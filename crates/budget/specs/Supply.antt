@@ -1,7 +1,7 @@
 -- Supply at t, in closed form: the fewest units that t slots of the interface bring (RULES 6).
 use Rattle.std.specs.Prelude.{ℕ, ◌+◌, ◌-◌, ◌*◌, ◌/◌, cond, leb, ltb, eqb}
 use Rattle.budget.specs.declared.interface.Interface.{Interface}
-use Rattle.budget.specs.declared.quantity.Amount.{Amount}
+use Rattle.budget.specs.Answered.{Amount}
 use Rattle.budget.specs.Interface.{Π, Θ, Δ, interface_refusal}
 use Rattle.budget.specs.Limits.{limit}
 use Rattle.budget.specs.Refusal as refusal

@@ -8,8 +8,8 @@ ghost use Rattle.budget.specs.Task.{tasks_of};
 use crate::quantity::Time;
 use crate::task::Table;
 
-// The stored common period: L, or that L is above the limit.
-#[derive(Clone, Copy)]
+// The stored common period: L, or that L is above the limit. It is no `Option`: there is an L in either case, and `None` would say that there is none.
+#[derive(Clone, Copy, PartialEq, Eq)]
 pub enum Common {
     Within(Time),
     Above,
@@ -58,31 +58,16 @@ pub fn grow(common: Common, period: Time) -> Common
 pub fn common_of(period: Time, table: Table) -> Common
     ensures { result ≡ common_of period.0 (tasks_of table) }
 {
-    let count = table.count;
-    let tasks = table.tasks;
     let mut common = capped(period.0 as u64);
-    let mut place = 0;
-    while place < count && place < Table::MOST {
-        let task = tasks[place];
+    for task in table.tasks() {
         common = grow(common, task.period);
-        place += 1;
     }
     common
 }
 
 // Whether two stored values are the same.
-#[tactic(auto, unfolding(crate::specs::Common::same_common))]
 pub fn same_common(a: Common, b: Common) -> bool
     ensures { result ≡ same_common a b }
 {
-    match a {
-        Common::Within(length) => match b {
-            Common::Within(other) => length.0 == other.0,
-            Common::Above => false,
-        },
-        Common::Above => match b {
-            Common::Within(_) => false,
-            Common::Above => true,
-        },
-    }
+    a == b
 }

@@ -1,18 +1,31 @@
 // A component (RULES 2): its capacity, its interface, its stored common period, and the refusals of one that is handed in.
 ghost use Rattle.std.specs.Prelude.{◌≡◌};
-ghost use Rattle.budget.specs.Component.{refused, interface_of, range_refusal, is_right, held_refusal};
+ghost use Rattle.budget.specs.Component.{refused, interface_at, interface_of, units_of, range_refusal, is_right, held_refusal};
+ghost use Rattle.budget.specs.Refusal.{number_in};
 
 use crate::common::{Common, common_of, same_common};
 use crate::interface::{Interface, check_interface};
 use crate::quantity::{Time, Units};
-use crate::refusal;
+use crate::refusal::Refusal;
 use crate::task::{Table, check_table, no_tasks};
 
-// The capacity of a component: stated in units, or asked for.
-#[derive(Clone, Copy)]
+// The capacity of a component: stated in units, or asked for. The rules name it as an enum of these two (RULES 2).
+#[derive(Clone, Copy, PartialEq, Eq)]
 pub enum Capacity {
     Stated(Units),
     Asked,
+}
+
+impl Capacity {
+    // The units of a stated capacity; an asked one has none of its own.
+    pub fn units(self) -> Units
+        ensures { result.0 ≡ units_of self }
+    {
+        match self {
+            Capacity::Stated(units) => units,
+            Capacity::Asked => Units(0),
+        }
+    }
 }
 
 // A component: its number, its interface with the capacity stated or asked, its common period as it is stored, and its tasks.
@@ -33,17 +46,24 @@ pub fn refused() -> Component
     ensures { result ≡ refused }
 {
     let interface = Interface::DEDICATED;
-    let period = interface.period;
-    let capacity = interface.capacity;
-    let deadline = interface.deadline;
-    let table = no_tasks();
     Component {
         number: 0,
-        period,
-        capacity: Capacity::Stated(capacity),
-        deadline,
-        common: Common::Within(period),
-        table,
+        period: interface.period,
+        capacity: Capacity::Stated(interface.capacity),
+        deadline: interface.deadline,
+        common: Common::Within(interface.period),
+        table: no_tasks(),
+    }
+}
+
+// A component's interface at a given capacity.
+pub fn interface_at(component: Component, capacity: Units) -> Interface
+    ensures { result ≡ interface_at component capacity.0 }
+{
+    Interface {
+        period: component.period,
+        capacity,
+        deadline: component.deadline,
     }
 }
 
@@ -52,32 +72,14 @@ pub fn refused() -> Component
 pub fn interface_of(component: Component) -> Interface
     ensures { result ≡ interface_of component }
 {
-    let period = component.period;
-    let deadline = component.deadline;
-    let capacity = component.capacity;
-    match capacity {
-        Capacity::Stated(units) => Interface {
-            period,
-            capacity: units,
-            deadline,
-        },
-        Capacity::Asked => Interface {
-            period,
-            capacity: Units(0),
-            deadline,
-        },
-    }
+    interface_at(component, component.capacity.units())
 }
 
 // The refusals of a component that stand before any other: 6, then 9.
-pub fn check_ranges(component: Component) -> u16
-    ensures { result ≡ range_refusal component }
+pub fn check_ranges(component: Component) -> Result<(), Refusal>
+    ensures { number_in result ≡ range_refusal component }
 {
-    let table = component.table;
-    let refused = check_table(table);
-    if refused != refusal::NONE {
-        return refused;
-    }
+    check_table(component.table)?;
     check_interface(interface_of(component))
 }
 
@@ -86,22 +88,19 @@ pub fn check_ranges(component: Component) -> u16
 pub fn is_right(component: Component) -> bool
     ensures { result ≡ is_right component }
 {
-    let common = component.common;
-    let table = component.table;
-    let right = common_of(component.period, table);
-    same_common(common, right)
+    same_common(
+        component.common,
+        common_of(component.period, component.table),
+    )
 }
 
 // The refusals of a component that is handed in, before anything is asked of it: 6, 9, then 17 for a stored common period that is not its own.
-pub fn check_held(component: Component) -> u16
-    ensures { result ≡ held_refusal component }
+pub fn check_held(component: Component) -> Result<(), Refusal>
+    ensures { number_in result ≡ held_refusal component }
 {
-    let refused = check_ranges(component);
-    if refused != refusal::NONE {
-        return refused;
-    }
+    check_ranges(component)?;
     if is_right(component) {
-        return refusal::NONE;
+        return Ok(());
     }
-    refusal::COMMON
+    Err(Refusal::Common)
 }

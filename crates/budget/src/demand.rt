@@ -1,11 +1,12 @@
 // Demand of a task table at an instant (RULES 4).
-ghost use Rattle.std.specs.Prelude.{◌≡◌, true, ◌*◌, ◌≤◌};
+ghost use Rattle.std.specs.Prelude.{◌≡◌, true, ◌*◌, ◌≤◌, length};
+ghost use Rattle.budget.specs.Answered.{amount_in};
 ghost use Rattle.budget.specs.Demand as Demand;
 ghost use Rattle.budget.specs.Limits.{limit, most_tasks};
-ghost use Rattle.budget.specs.Task.{C, tasks_of, valid_task, valid_tasks};
+ghost use Rattle.budget.specs.Task.{C, valid_task, valid_tasks};
 
-use crate::quantity::{Amount, Time, Units, check_instant, no_amount};
-use crate::refusal;
+use crate::quantity::{Time, Units, check_instant};
+use crate::refusal::Refusal;
 use crate::task::{Table, Task, check_table, span};
 
 // The units of a task's jobs that fall due by `at`, where each is ready as late as it may be. Before the first deadline there are none.
@@ -24,32 +25,22 @@ fn units_of(task: Task, at: u32) -> u32
 }
 
 // The units of all tasks' jobs that fall due by `at`.
-fn units_due(table: Table, at: u32) -> u32
-    requires { (table.count ≤ most_tasks) × (valid_tasks (tasks_of table) ≡ true) × (at ≤ limit) }
-    ensures { result ≡ Demand.demand (tasks_of table) at }
+fn units_due(tasks: &[Task], at: u32) -> u32
+    requires { (length tasks.now ≤ most_tasks) × (valid_tasks tasks.now ≡ true) × (at ≤ limit) }
+    ensures { result ≡ Demand.demand tasks.now at }
 {
-    let count = table.count;
-    let tasks = table.tasks;
     let mut units = 0;
-    let mut place = 0;
-    while place < count {
-        units += units_of(tasks[place], at);
-        place += 1;
+    for task in tasks {
+        units += units_of(*task, at);
     }
     units
 }
 
 // Demand of a task table at t.
-pub fn demand(table: Table, t: Time) -> Amount
-    ensures { result ≡ Demand.demand_answer table t.0 }
+pub fn demand(table: Table, t: Time) -> Result<Units, Refusal>
+    ensures { amount_in result ≡ Demand.demand_answer table t.0 }
 {
-    let refused = check_instant(check_table(table), t);
-    if refused != refusal::NONE {
-        return no_amount(refused);
-    }
-    let at = t.0;
-    Amount {
-        refusal: refusal::NONE,
-        units: Units(units_due(table, at)),
-    }
+    check_table(table)?;
+    check_instant(t)?;
+    Ok(Units(units_due(table.tasks(), t.0)))
 }

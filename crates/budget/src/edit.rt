@@ -1,143 +1,105 @@
 // Adding a task to a component, and removing one (RULES 11). The common period goes along: adding takes one common multiple with the stored value,
 // removing works it out afresh.
-ghost use Rattle.std.specs.Prelude.{◌≡◌, ◌++◌, ◌+◌, ◌-◌, ◌≤◌, ◌<◌, take, drop};
+ghost use Rattle.std.specs.Prelude.{◌≡◌, ◌++◌, ◌+◌, ◌≤◌, ◌<◌, length};
 ghost use Rattle.budget.specs.Common.{common_of};
-ghost use Rattle.budget.specs.Component.{Right, refused, with_tasks};
-ghost use Rattle.budget.specs.Edit.{added, adding_answer, removing_answer};
+ghost use Rattle.budget.specs.Component.{Right, with_tasks};
+ghost use Rattle.budget.specs.Edit.{added, adding_answer, edited_in, removing_answer};
 ghost use Rattle.budget.specs.Limits.{most_tasks};
+ghost use Rattle.budget.specs.Refusal.{number_in};
 ghost use Rattle.budget.specs.inner.Edits.{adding_ranges, removed_answer};
 ghost use Rattle.budget.specs.Task.{tasks_of, table_of};
 
 use crate::common::{Common, common_of, grow};
-use crate::component::{Component, check_held, check_ranges, is_right, refused};
-use crate::refusal;
+use crate::component::{Component, check_held, check_ranges, is_right};
+use crate::refusal::Refusal;
 use crate::task::{Table, Task, append, check_task, no_tasks};
 
-// What an edit answers; refused: the component that stands for none.
-#[derive(Clone, Copy)]
-pub struct Edited {
-    pub refusal: u16,
-    pub component: Component,
-}
-
-// The tasks of a table with those of `source` from place `first` up to `end` after them, and zero from there on.
-pub(crate) fn append_part(table: Table, source: Table, first: usize, end: usize) -> Table
+// The tasks of a table with these after them, and zero from there on.
+pub(crate) fn append_all(table: Table, tasks: &[Task]) -> Table
     requires returned { table ≡ table_of (tasks_of table) }
-    requires room { (end ≤ most_tasks) × (first ≤ end) × (table.count + (end - first) ≤ most_tasks) }
-    ensures { result ≡ table_of (tasks_of table ++ drop first (take end source.tasks)) }
+    requires room { table.count + length tasks.now ≤ most_tasks }
+    ensures { result ≡ table_of (tasks_of table ++ tasks.now) }
 {
-    let tasks = source.tasks;
     let mut longer = table;
-    let mut place = first;
-    while place < end {
-        let task = tasks[place];
-        longer = append(longer, task);
-        place += 1;
+    for task in tasks {
+        longer = append(longer, *task);
     }
     longer
 }
 
-// An edit that is refused.
-pub(crate) fn no_edit(number: u16) -> Edited
-    ensures { result ≡ record { refusal = number; component = refused } }
+// The table of these tasks, and zero from there on.
+pub(crate) fn table_from(tasks: &[Task]) -> Table
+    requires { length tasks.now ≤ most_tasks }
+    ensures { result ≡ table_of tasks.now }
 {
-    let component = refused();
-    Edited {
-        refusal: number,
-        component,
-    }
+    append_all(no_tasks(), tasks)
 }
 
-// An edit that gives the component these tasks, with their common period.
+// The component with these tasks and their common period.
 #[tactic(auto, unfolding(crate::specs::Component::with_tasks))]
-pub(crate) fn with_table(component: Component, common: Common, table: Table) -> Edited
+pub(crate) fn with_table(component: Component, common: Common, table: Table) -> Component
     requires returned { table ≡ table_of (tasks_of table) }
     requires right { common ≡ common_of component.period.0 (tasks_of table) }
-    ensures { result ≡ record { refusal = 0; component = with_tasks component (tasks_of table) } }
+    ensures { result ≡ with_tasks component (tasks_of table) }
 {
-    let number = component.number;
-    let period = component.period;
-    let capacity = component.capacity;
-    let deadline = component.deadline;
-    let edited = Component {
-        number,
-        period,
-        capacity,
-        deadline,
+    Component {
         common,
         table,
-    };
-    Edited {
-        refusal: refusal::NONE,
-        component: edited,
+        ..component
     }
 }
 
 // The refusals of adding that stand before that of the stored value: 6, then 9.
-pub(crate) fn check_adding(component: Component, task: Task) -> u16
-    ensures { result ≡ adding_ranges component task }
+pub(crate) fn check_adding(component: Component, task: Task) -> Result<(), Refusal>
+    ensures { number_in result ≡ adding_ranges component task }
 {
-    let table = component.table;
-    let count = table.count;
-    if Table::MOST <= count {
-        return refusal::TASKS;
+    if Table::MOST <= component.table.count {
+        return Err(Refusal::Tasks);
     }
-    let ranges = check_ranges(component);
-    if ranges != refusal::NONE {
-        return ranges;
-    }
+    check_ranges(component)?;
     check_task(task)
 }
 
 // The component with a task more, behind the others, where there is room and the stored value is right.
-pub(crate) fn added(component: Component, task: Task) -> Edited
+pub(crate) fn added(component: Component, task: Task) -> Component
     requires { (component.table.count < most_tasks) × Right component }
-    ensures { result ≡ record { refusal = 0; component = with_tasks component (added (tasks_of component.table) task) } }
+    ensures { result ≡ with_tasks component (added (tasks_of component.table) task) }
 {
-    let table = component.table;
-    let stood = append_part(no_tasks(), table, 0, table.count);
-    let common = component.common;
-    let grown = grow(common, task.period);
+    let stood = table_from(component.table.tasks());
+    let grown = grow(component.common, task.period);
     with_table(component, grown, append(stood, task))
 }
 
 // The component with a task more, behind the others.
-pub fn add_task(component: Component, task: Task) -> Edited
-    ensures { result ≡ adding_answer component task }
+pub fn add_task(component: Component, task: Task) -> Result<Component, Refusal>
+    ensures { edited_in result ≡ adding_answer component task }
 {
-    let refused = check_adding(component, task);
-    if refused != refusal::NONE {
-        return no_edit(refused);
-    }
+    check_adding(component, task)?;
     if is_right(component) {
-        return added(component, task);
+        return Ok(added(component, task));
     }
-    no_edit(refusal::COMMON)
+    Err(Refusal::Common)
 }
 
 // The component without the task at a place, where its table is in range; the tasks behind it close the gap.
-pub(crate) fn removed_at(component: Component, place: usize) -> Edited
+pub(crate) fn removed_at(component: Component, place: usize) -> Result<Component, Refusal>
     requires { component.table.count ≤ most_tasks }
-    ensures { result ≡ removed_answer component place }
+    ensures { edited_in result ≡ removed_answer component place }
 {
-    let table = component.table;
-    let count = table.count;
-    if count <= place {
-        return no_edit(refusal::PLACE);
+    let tasks = component.table.tasks();
+    if tasks.len() <= place {
+        return Err(Refusal::Place);
     }
-    let before = append_part(no_tasks(), table, 0, place);
-    let left = append_part(before, table, place + 1, count);
+    let before = table_from(&tasks[..place]);
+    let left = append_all(before, &tasks[place + 1..]);
     let common = common_of(component.period, left);
-    with_table(component, common, left)
+    Ok(with_table(component, common, left))
 }
 
 // The component without the task at a place.
-pub fn remove_task(component: Component, place: usize) -> Edited
-    ensures { result ≡ removing_answer component place }
+pub fn remove_task(component: Component, place: usize) -> Result<Component, Refusal>
+    ensures { edited_in result ≡ removing_answer component place }
 {
-    let refused = check_held(component);
-    if refused != refusal::NONE {
-        return no_edit(refused);
-    }
+    check_held(component)?;
     removed_at(component, place)
 }

@@ -1,12 +1,13 @@
 // An interface (RULES 2), its limits and its refusal.
 ghost use Rattle.std.specs.Prelude.{◌≡◌};
 ghost use Rattle.budget.specs.Interface.{dedicated, interface_refusal};
+ghost use Rattle.budget.specs.Refusal.{number_in};
 
 use crate::quantity::{Time, Units};
-use crate::refusal;
+use crate::refusal::Refusal;
 
 // An explicit-deadline-periodic interface: period Π, capacity Θ, deadline Δ.
-#[derive(Clone, Copy)]
+#[derive(Clone, Copy, PartialEq, Eq)]
 pub struct Interface {
     pub period: Time,
     pub capacity: Units,
@@ -35,23 +36,23 @@ pub fn dedicated() -> Interface
 
 // The refusal of an interface: 0 ≤ Θ ≤ Δ ≤ Π ≤ the limit and Δ ≥ 1, or 9.
 #[tactic(auto, unfolding(crate::specs::Interface::interface_refusal, crate::specs::Interface::valid_interface))]
-pub fn check_interface(interface: Interface) -> u16
-    ensures { result ≡ interface_refusal interface }
+pub fn check_interface(interface: Interface) -> Result<(), Refusal>
+    ensures { number_in result ≡ interface_refusal interface }
 {
     let period = interface.period.0;
     let capacity = interface.capacity.0;
     let deadline = interface.deadline.0;
     if deadline < capacity {
-        return refusal::RANGE;
+        return Err(Refusal::Range);
     }
     if period < deadline {
-        return refusal::RANGE;
+        return Err(Refusal::Range);
     }
     if Interface::LONGEST_PERIOD < period {
-        return refusal::RANGE;
+        return Err(Refusal::Range);
     }
     if deadline < Interface::LEAST_DEADLINE {
-        return refusal::RANGE;
+        return Err(Refusal::Range);
     }
-    refusal::NONE
+    Ok(())
 }

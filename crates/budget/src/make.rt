@@ -1,13 +1,14 @@
 // Making a component from plain numbers (RULES 11): its common period is worked out.
 ghost use Rattle.std.specs.Prelude.{◌≡◌};
+ghost use Rattle.budget.specs.Edit.{edited_in};
 ghost use Rattle.budget.specs.Make.{making_answer};
 
 use crate::common::{Common, common_of};
 use crate::component::{Capacity, Component, check_ranges};
-use crate::edit::{Edited, append_part, no_edit, with_table};
+use crate::edit::{table_from, with_table};
 use crate::quantity::Time;
-use crate::refusal;
-use crate::task::{Table, no_tasks};
+use crate::refusal::Refusal;
+use crate::task::Table;
 
 // The component of these numbers, refused as its ranges are.
 pub fn make_component(
@@ -16,8 +17,8 @@ pub fn make_component(
     capacity: Capacity,
     deadline: Time,
     table: Table,
-) -> Edited
-    ensures { result ≡ making_answer number period capacity deadline table }
+) -> Result<Component, Refusal>
+    ensures { edited_in result ≡ making_answer number period capacity deadline table }
 {
     let unmade = Component {
         number,
@@ -27,11 +28,8 @@ pub fn make_component(
         common: Common::Above,
         table,
     };
-    let refused = check_ranges(unmade);
-    if refused != refusal::NONE {
-        return no_edit(refused);
-    }
-    let kept = append_part(no_tasks(), table, 0, table.count);
+    check_ranges(unmade)?;
+    let kept = table_from(table.tasks());
     let common = common_of(period, kept);
-    with_table(unmade, common, kept)
+    Ok(with_table(unmade, common, kept))
 }

@@ -1,12 +1,13 @@
 // Supply of an interface at an instant (RULES 6).
 ghost use Rattle.std.specs.Prelude.{◌≡◌, ◌≤◌, true};
+ghost use Rattle.budget.specs.Answered.{amount_in};
 ghost use Rattle.budget.specs.Interface.{valid_interface};
 ghost use Rattle.budget.specs.Limits.{limit};
 ghost use Rattle.budget.specs.Supply as Supply;
 
 use crate::interface::{Interface, check_interface};
-use crate::quantity::{Amount, Time, Units, check_instant, no_amount};
-use crate::refusal;
+use crate::quantity::{Time, Units, check_instant};
+use crate::refusal::Refusal;
 
 // The fewest units in `at` slots of an interface in range. Behind the wait the worst case goes period by period: a pause of Π − Θ slots, then
 // the capacity, a unit a slot. Whole periods and the rest, the slots of the period begun, come from one division.
@@ -34,16 +35,10 @@ fn units_by(interface: Interface, at: u32) -> u32
 }
 
 // Supply of an interface at t.
-pub fn supply(interface: Interface, t: Time) -> Amount
-    ensures { result ≡ Supply.supply_answer interface t.0 }
+pub fn supply(interface: Interface, t: Time) -> Result<Units, Refusal>
+    ensures { amount_in result ≡ Supply.supply_answer interface t.0 }
 {
-    let refused = check_instant(check_interface(interface), t);
-    if refused != refusal::NONE {
-        return no_amount(refused);
-    }
-    let at = t.0;
-    Amount {
-        refusal: refusal::NONE,
-        units: Units(units_by(interface, at)),
-    }
+    check_interface(interface)?;
+    check_instant(t)?;
+    Ok(Units(units_by(interface, t.0)))
 }

@@ -1,5 +1,6 @@
 // An answer, put together word by word.
 use arrayvec::ArrayVec;
+use budget::refusal::Refusal;
 use std::fmt::Display;
 use std::io::Write;
 
@@ -37,13 +38,27 @@ impl Out {
         let _ = write!(self.bytes, "{word}");
     }
 
-    // `ok`, or `refused` and the refusal's number.
-    pub fn status(&mut self, refusal: u16) {
-        if refusal == 0 {
-            return self.word("ok");
-        }
+    pub fn ok(&mut self) {
+        self.word("ok");
+    }
+
+    pub fn refused(&mut self, refusal: Refusal) {
         self.word("refused");
-        self.word(refusal);
+        self.word(u16::from(refusal));
+    }
+
+    // `ok`, or `refused` and the refusal's number.
+    pub fn status<T>(&mut self, answered: &Result<T, Refusal>) {
+        match answered {
+            Ok(_) => self.ok(),
+            Err(refusal) => self.refused(*refusal),
+        }
+    }
+
+    // An answer of one number, 0 where it is refused.
+    pub fn number(&mut self, answered: Result<u32, Refusal>) {
+        self.status(&answered);
+        self.word(answered.unwrap_or(0));
     }
 
     // A row of bytes in hex, or `-` for none.

@@ -4,6 +4,9 @@ ghost use Rattle.calls.specs.Counts.{IsPrefixLen};
 
 use crate::words::Words;
 
+// Room for the longest row of a call.
+pub const ROOM: usize = 65_600;
+
 // What a list may hold, and how it is read.
 pub trait Listed: Copy {
     fn read(words: &mut Words<'_>) -> Self;

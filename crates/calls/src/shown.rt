@@ -1,13 +1,9 @@
 // What an answer shows of a component.
 use crate::print::Out;
 use budget::common::Common;
-use budget::component::{Capacity, Component};
-use budget::edit::Edited;
+use budget::component::{Capacity, Component, refused};
+use budget::refusal::Refusal;
 use budget::task::{Table, Task};
-
-fn is_zero(task: &Task) -> bool {
-    task.period.0 == 0 && task.work.0 == 0 && task.deadline.0 == 0 && task.lateness.0 == 0
-}
 
 impl Out {
     fn task(&mut self, task: Task) {
@@ -19,7 +15,7 @@ impl Out {
 
     fn table(&mut self, table: Table) {
         self.word(table.count);
-        for task in table.tasks.iter().take(table.count) {
+        for task in table.tasks() {
             self.task(*task);
         }
     }
@@ -43,7 +39,7 @@ impl Out {
 
     // `zero` if every task place from the count on is (0, 0, 0, 0), else `filled`.
     fn rest(&mut self, table: Table) {
-        if table.tasks.iter().skip(table.count).all(is_zero) {
+        if table.tasks.iter().skip(table.count).all(|task| *task == Task::NONE) {
             self.word("zero");
         } else {
             self.word("filled");
@@ -61,9 +57,9 @@ impl Out {
         self.rest(component.table);
     }
 
-    // The answer of an edit.
-    pub fn edited(&mut self, answered: Edited) {
-        self.status(answered.refusal);
-        self.component(answered.component);
+    // The answer of an edit; one that is refused shows the component that stands for none.
+    pub fn edited(&mut self, answered: Result<Component, Refusal>) {
+        self.status(&answered);
+        self.component(answered.unwrap_or(refused()));
     }
 }

@@ -1,32 +1,31 @@
 // Calls on tasks, interfaces and components.
-use budget::quantity::Amount;
-use budget::{check, common, demand, interface, supply, task};
+use budget::{check, common, common_period, demand, interface, supply, task};
 use calls::print::Out;
 use calls::words::Words;
 
 pub fn check_task(words: &mut Words<'_>, out: &mut Out) {
     let task = words.task();
-    out.status(task::check_task(task));
+    out.status(&task::check_task(task));
 }
 
 pub fn check_table(words: &mut Words<'_>, out: &mut Out) {
     let table = words.table();
-    out.status(task::check_table(table));
+    out.status(&task::check_table(table));
 }
 
 pub fn check_interface(words: &mut Words<'_>, out: &mut Out) {
     let interface = words.interface();
-    out.status(interface::check_interface(interface));
+    out.status(&interface::check_interface(interface));
 }
 
 pub fn check_component(words: &mut Words<'_>, out: &mut Out) {
     let component = words.component();
-    out.status(check::check_component(component));
+    out.status(&check::check_component(component));
 }
 
 pub fn dedicated(out: &mut Out) {
     let dedicated = interface::dedicated();
-    out.status(0);
+    out.ok();
     out.word(dedicated.period.0);
     out.word(dedicated.capacity.0);
     out.word(dedicated.deadline.0);
@@ -35,30 +34,22 @@ pub fn dedicated(out: &mut Out) {
 pub fn common_divisor(words: &mut Words<'_>, out: &mut Out) {
     let first = words.long();
     let second = words.long();
-    out.status(0);
-    out.word(common::common_divisor(first, second));
+    out.number(Ok(common::common_divisor(first, second)));
 }
 
 pub fn common_period(words: &mut Words<'_>, out: &mut Out) {
     let component = words.component();
-    let answered = budget::common_period::common_period(component);
-    out.status(answered.refusal);
-    out.word(answered.length.0);
-}
-
-fn put_amount(out: &mut Out, answered: Amount) {
-    out.status(answered.refusal);
-    out.word(answered.units.0);
+    out.number(common_period::common_period(component).map(|length| length.0));
 }
 
 pub fn demand(words: &mut Words<'_>, out: &mut Out) {
     let table = words.table();
     let t = words.time();
-    put_amount(out, demand::demand(table, t));
+    out.number(demand::demand(table, t).map(|units| units.0));
 }
 
 pub fn supply(words: &mut Words<'_>, out: &mut Out) {
     let interface = words.interface();
     let t = words.time();
-    put_amount(out, supply::supply(interface, t));
+    out.number(supply::supply(interface, t).map(|units| units.0));
 }

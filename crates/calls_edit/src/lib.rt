@@ -6,21 +6,20 @@ mod edits;
 mod shown;
 
 use calls::print::Out;
+use calls::rows::ROOM;
 use calls::words::Words;
 use calls_sheet::shown::put_reading;
 use transfer::read;
 
 pub fn edit(words: &mut Words<'_>, out: &mut Out) {
-    let mut bytes = [0u8; 65_600];
+    let mut bytes = [0u8; ROOM];
     let sheet = words.row(&mut bytes);
     let place = words.place();
-    let reading = read::read_component(sheet, place);
-    if reading.refusal != 0 {
-        return put_reading(out, reading);
+    match read::read_component(sheet, place) {
+        Ok(component) => match edits::edit_all(words, component) {
+            Ok(edited) => shown::put_asked(out, edited),
+            Err(refusal) => out.edited(Err(refusal)),
+        },
+        Err(fault) => put_reading(out, Err(fault)),
     }
-    let edited = edits::edit_all(words, reading.component);
-    if edited.refusal != 0 {
-        return out.edited(edited);
-    }
-    shown::put_asked(out, edited.component)
 }

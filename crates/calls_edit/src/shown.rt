@@ -3,26 +3,9 @@ ghost use Rattle.budget.specs.Component.{Right};
 
 use budget::component::Component;
 use calls::print::Out;
-use calls_judge::shown as judged;
-use judge::answer::{Answer, Smallest};
+use calls_judge::shown::{put_judgement, put_smallest};
 use judge::known;
 use transfer::known as writing;
-
-fn put_judged(out: &mut Out, answer: Answer) {
-    let refusal = judged::refusal_of(answer);
-    if refusal != 0 {
-        return out.status(refusal);
-    }
-    judged::put_answer(out, answer)
-}
-
-fn put_smallest(out: &mut Out, answered: Smallest) {
-    match answered {
-        Smallest::Refused(refusal) => out.status(refusal),
-        Smallest::Found(units) => out.word(units.0),
-        Smallest::None => out.word("none"),
-    }
-}
 
 // The bytes of the component's records; those of 64 tasks fit into the buffer.
 fn put_records(out: &mut Out, component: Component)
@@ -30,7 +13,7 @@ fn put_records(out: &mut Out, component: Component)
 {
     let mut buffer = [0u8; 2048];
     let written = writing::write_component(&mut buffer, 0, component);
-    if let Some(records) = buffer.get(..written.place) {
+    if let Some(records) = buffer.get(..written.unwrap_or(0)) {
         out.row(records);
     }
 }
@@ -39,9 +22,15 @@ fn put_records(out: &mut Out, component: Component)
 pub(crate) fn put_asked(out: &mut Out, component: Component)
     requires { Right component }
 {
-    out.status(0);
+    out.ok();
     out.component(component);
-    put_judged(out, known::judge(component));
-    put_smallest(out, known::smallest_capacity(component));
+    match known::judge(component) {
+        Ok(judgement) => put_judgement(out, judgement),
+        Err(refusal) => out.refused(refusal),
+    }
+    match known::smallest_capacity(component) {
+        Ok(smallest) => put_smallest(out, smallest),
+        Err(refusal) => out.refused(refusal),
+    }
     put_records(out, component);
 }

@@ -3,6 +3,7 @@
 #![tactic(auto)]
 
 use calls::print::Out;
+use calls::rows::ROOM;
 use calls::words::Words;
 
 // Calls with the buffer and the place in it that the call says, and shows what is returned and the buffer.
@@ -20,20 +21,20 @@ fn called<F: FnOnce(&mut [u8], usize) -> u32>(words: &mut Words<'_>, out: &mut O
 }
 
 pub fn host(words: &mut Words<'_>, out: &mut Out) {
-    let mut bytes = [0u8; 65_600];
+    let mut bytes = [0u8; ROOM];
     let sheet = words.row(&mut bytes);
     let place = words.place();
     called(words, out, |reply, at| jougsilver::jougsilver_judge(sheet, place, reply, at));
 }
 
 pub fn host_check(words: &mut Words<'_>, out: &mut Out) {
-    let mut bytes = [0u8; 65_600];
+    let mut bytes = [0u8; ROOM];
     let sheet = words.row(&mut bytes);
     called(words, out, |reply, at| jougsilver::jougsilver_check(sheet, reply, at));
 }
 
 pub fn host_all(words: &mut Words<'_>, out: &mut Out) {
-    let mut bytes = [0u8; 65_600];
+    let mut bytes = [0u8; ROOM];
     let sheet = words.row(&mut bytes);
     called(words, out, |reply, at| jougsilver::jougsilver_judge_all(sheet, reply, at));
 }

@@ -5,27 +5,22 @@ pub mod shown;
 
 use calls::print::Out;
 use calls::words::Words;
-use judge::answer::Smallest;
 use judge::{capacity, judging};
 
 pub fn judge(words: &mut Words<'_>, out: &mut Out) {
     let component = words.component();
-    let answer = judging::judge(component);
-    out.status(shown::refusal_of(answer));
-    shown::put_answer(out, answer);
+    let answered = judging::judge(component);
+    out.status(&answered);
+    if let Ok(judgement) = answered {
+        shown::put_judgement(out, judgement);
+    }
 }
 
 pub fn capacity(words: &mut Words<'_>, out: &mut Out) {
     let component = words.component();
-    match capacity::smallest_capacity(component) {
-        Smallest::Refused(refusal) => out.status(refusal),
-        Smallest::Found(units) => {
-            out.status(0);
-            out.word(units.0);
-        }
-        Smallest::None => {
-            out.status(0);
-            out.word("none");
-        }
+    let answered = capacity::smallest_capacity(component);
+    out.status(&answered);
+    if let Ok(smallest) = answered {
+        shown::put_smallest(out, smallest);
     }
 }

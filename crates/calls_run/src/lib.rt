@@ -1,33 +1,45 @@
 // The calls of the crates `trace` and `run` (docs/CALLS.md), each answered by a function of its own.
 #![tactic(auto)]
 
+use budget::quantity::Units;
+use budget::refusal::Refusal;
 use calls::print::Out;
+use calls::rows::ROOM;
 use calls::words::Words;
-use run::walk;
-use trace::legal;
+use run::jobs::Jobs;
+use run::walk::{Walked, walk as walk_jobs};
+use trace::legal::is_legal;
 
 pub fn legal(words: &mut Words<'_>, out: &mut Out) {
     let interface = words.interface();
     let offset = words.time();
-    let mut bytes = [0u8; 65_600];
+    let mut bytes = [0u8; ROOM];
     let trace = words.row(&mut bytes);
-    let answered = legal::is_legal(interface, offset, trace);
-    out.status(answered.refusal);
-    out.word(if answered.legal { "yes" } else { "no" });
+    let answered = is_legal(interface, offset, trace);
+    out.status(&answered);
+    out.word(if answered.unwrap_or(false) { "yes" } else { "no" });
 }
 
-fn put_walked(out: &mut Out, answered: walk::Walked, left: &[u32]) {
-    out.status(answered.refusal);
-    match answered.miss {
-        walk::Miss::None => out.word("none"),
-        walk::Miss::At(instant, task) => {
+// What a walk shows where it is refused.
+const NOT_WALKED: Walked = Walked {
+    miss: None,
+    served: Units(0),
+    idle: Units(0),
+};
+
+fn put_walked(out: &mut Out, answered: Result<Walked, Refusal>, left: &[u32]) {
+    out.status(&answered);
+    let walked = answered.unwrap_or(NOT_WALKED);
+    match walked.miss {
+        Some(miss) => {
             out.word("miss");
-            out.word(instant.0);
-            out.word(task);
+            out.word(miss.at.0);
+            out.word(miss.task);
         }
+        None => out.word("none"),
     }
-    out.word(answered.served.0);
-    out.word(answered.idle.0);
+    out.word(walked.served.0);
+    out.word(walked.idle.0);
     out.list(left);
 }
 
@@ -35,19 +47,21 @@ fn put_walked(out: &mut Out, answered: walk::Walked, left: &[u32]) {
 pub fn walk(words: &mut Words<'_>, out: &mut Out) {
     let table = words.table();
     let mut tasks = [0u32; 2048];
-    let tasks = words.list(&mut tasks);
     let mut releases = [0i32; 2048];
-    let releases = words.list(&mut releases);
     let mut ready = [0u32; 2048];
-    let ready = words.list(&mut ready);
     let mut works = [0u32; 2048];
-    let works = words.list(&mut works);
-    let mut bytes = [0u8; 65_600];
+    let jobs = Jobs {
+        tasks: words.list(&mut tasks),
+        releases: words.list(&mut releases),
+        ready: words.list(&mut ready),
+        works: words.list(&mut works),
+    };
+    let mut bytes = [0u8; ROOM];
     let trace = words.row(&mut bytes);
     let mut left = [77u32; 2048];
     match left.get_mut(..words.place()) {
         Some(left) => {
-            let answered = walk::walk(table, tasks, releases, ready, works, trace, left);
+            let answered = walk_jobs(table, jobs, trace, left);
             put_walked(out, answered, left);
         }
         None => out.unknown(),

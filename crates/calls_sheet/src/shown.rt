@@ -1,17 +1,24 @@
 // What an answer on a sheet shows.
+use budget::component::{Component, refused};
 use calls::print::Out;
-use transfer::read::Reading;
+use sheet::check::Fault;
+
+// `refused` with its number and place.
+pub fn put_fault(out: &mut Out, fault: Fault) {
+    out.refused(fault.refusal);
+    out.word(fault.place);
+}
 
 // `ok`, or `refused` with its number and place.
-pub fn put_fault(out: &mut Out, refusal: u16, place: usize) {
-    out.status(refusal);
-    if refusal != 0 {
-        out.word(place);
+pub fn put_status<T>(out: &mut Out, answered: &Result<T, Fault>) {
+    match answered {
+        Ok(_) => out.ok(),
+        Err(fault) => put_fault(out, *fault),
     }
 }
 
-// The answer of a reading.
-pub fn put_reading(out: &mut Out, answered: Reading) {
-    put_fault(out, answered.refusal, answered.place);
-    out.component(answered.component);
+// The answer of a reading; one that is refused shows the component that stands for none.
+pub fn put_reading(out: &mut Out, answered: Result<Component, Fault>) {
+    put_status(out, &answered);
+    out.component(answered.unwrap_or(refused()));
 }

@@ -1,19 +1,20 @@
 // Calls that write into a buffer, which is as much of the lent one as the call says, filled with a5.
+use budget::refusal::Refusal;
 use calls::print::Out;
 use calls::words::Words;
 use transfer::pair::{self, Pair};
-use transfer::write::{self, Written};
+use transfer::write;
 
 // Writes into the buffer from the place on that the call says, and shows the answer and the buffer.
-fn written<F: FnOnce(&mut [u8], usize) -> Written>(words: &mut Words<'_>, out: &mut Out, write: F)
+fn written<F: FnOnce(&mut [u8], usize) -> Result<usize, Refusal>>(words: &mut Words<'_>, out: &mut Out, write: F)
     requires { F.IsAlwaysCallable write }
 {
     let mut buffer = [0xa5u8; 4096];
     match buffer.get_mut(..words.place()) {
         Some(part) => {
             let answered = write(part, words.place());
-            out.status(answered.refusal);
-            out.word(answered.place);
+            out.status(&answered);
+            out.word(answered.unwrap_or(0));
             out.row(part);
         }
         None => out.unknown(),

@@ -5,7 +5,7 @@ use mathlib.Core.Bool.{true, cond}
 use lib.Dec.{eqb}
 use borrow.Author.Tests.{eq-eqb, ne_eqb}
 use native.Mathlib.Omega.{arith}
-use Rattle.budget.specs.declared.common_period.CommonPeriod.{CommonPeriod}
+use Rattle.budget.specs.Answered.{CommonPeriod}
 use Rattle.budget.specs.declared.component.Capacity.{Capacity}
 use Rattle.budget.specs.declared.component.Capacity.TheVariants.{Stated}
 use Rattle.budget.specs.declared.component.Component.{Component}

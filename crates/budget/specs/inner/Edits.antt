@@ -1,7 +1,7 @@
 -- The steps of an edit: what adding is refused before the stored value is looked at, and what removing answers of a component that is taken.
 use Rattle.std.specs.Prelude.{ℕ, cond, ◌&&◌, leb, ltb}
 use Rattle.budget.specs.declared.component.Component.{Component}
-use Rattle.budget.specs.declared.edit.Edited.{Edited}
+use Rattle.budget.specs.Edit.{Edited}
 use Rattle.budget.specs.declared.task.Task.{Task}
 use Rattle.budget.specs.Component.{valid_component}
 use Rattle.budget.specs.Edit.{edited, removed}

@@ -2,7 +2,7 @@
 -- common period's operation answers.
 use Rattle.budget.specs.declared.common.Common.{Common}
 use Rattle.budget.specs.declared.common.Common.TheVariants.{Within, Above}
-use Rattle.budget.specs.declared.common_period.CommonPeriod.{CommonPeriod}
+use Rattle.budget.specs.Answered.{CommonPeriod}
 use Rattle.budget.specs.Refusal as refusal
 
 unfoldable pub stored_answer : Common → CommonPeriod

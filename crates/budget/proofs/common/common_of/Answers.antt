@@ -1,51 +1,20 @@
--- The common period is worked out task by task. The loop's invariant: what is stored so far, grown by the tasks from the present place on, is that of
--- the whole table.
-use Prim.Native.Nat.{◌≤◌, ◌<◌}
-use mathlib.Core.Logic.{◌⊎◌, inl, inr}
-use mathlib.Core.Path.{◌≡◌, refl, sym, ◌∙◌, ap}
-use lib.ListN.{length, take}
-use borrow.Author.Rules.{rules}
-use Rattle.budget.specs.declared.common.Common.{Common}
-use Rattle.budget.specs.declared.task.Table.{Table}
+-- The common period is worked out task by task: one more is the one at the place, and at the end none is left.
+use mathlib.Core.Path.{◌≡◌, sym, ◌∙◌, ap}
+use lib.ListN.{drop_of_length-le}
 use Rattle.budget.specs.Common.{common_of, grown_by}
-use Rattle.budget.specs.Limits.{most_tasks}
-use Rattle.budget.specs.Task.{tasks_of}
-use Rattle.budget.proofs.Places.{length_mapped, taken_place, taken_end}
+use Rattle.budget.proofs.Places.{from_place}
 use Rattle.budget.proofs.common.common_of.Goals as goal
-use Rattle.budget.proofs.common.common_of.Goals.{At-loop-place, Start}
 
--- a table has the places that its type gives it
-places : (s : Start) → length s.args.table.tasks ≡ most_tasks
-places s = search (rules, length_mapped)
+pub loop-task-init : goal.loop-task-init
+unfolding common_of
+loop-task-init c = rw (c.capped-common.ensures, c.tasks-task-items.ensures)
 
--- at the end nothing is left
-module _ (c : At-loop-place) where
-  abbrev table : Table
-  table = c.args.table
-
-  over : (table.count ≤ c.loop-place.place) ⊎ (length table.tasks ≤ c.loop-place.place)
-      → c.loop-place.common ≡ common_of c.args.period.0 (tasks_of table)
-  unfolding common_of grown_by tasks_of
-  over h =
-      sym
-      (ap (λ (s : Common). grown_by s (take table.count table.tasks)) (sym c.capped-common.ensures)
-      ∙ c.loop-place.invariant
-      ∙ ap (grown_by c.loop-place.common) (taken_end table.count table.tasks c.loop-place.place h))
-
-pub loop-place-preserved : goal.loop-place-preserved
+pub loop-task-preserved : goal.loop-task-preserved
 unfolding grown_by
-loop-place-preserved c =
-    let t = table (goal.at.loop-place-preserved c).At-loop-place in
-    let l : c.loop-place.place < length t.tasks = rw (places (goal.at.loop-place-preserved c).Start) c.if-place-lt-MOST.true in
+loop-task-preserved c =
     rw c.grow-common.ensures
-    (c.loop-place.invariant
-    ∙ ap (grown_by c.loop-place.common) (taken_place t.count t.tasks c.loop-place.place c.loop-place-test.true l))
+    (c.loop-task.invariant ∙ ap (grown_by c.loop-task.common) (from_place c.tasks-task-items.result.now _ c.loop-task-test.true))
 
-pub returns-else-place-lt-MOST : goal.returns-else-place-lt-MOST
-returns-else-place-lt-MOST c = over (goal.at.returns-else-place-lt-MOST c).At-loop-place (inr (rw (places (goal.at.returns-else-place-lt-MOST c).Start) c.if-place-lt-MOST.false))
-
-pub returns-after-loop-place : goal.returns-after-loop-place
-returns-after-loop-place c = over (goal.at.returns-after-loop-place c).At-loop-place (inl c.loop-place-test.false)
-
-pub loop-place-init : goal.loop-place-init
-loop-place-init c = refl
+pub returns : goal.returns
+unfolding grown_by
+returns c = sym (c.loop-task.invariant ∙ rw (drop_of_length-le c.tasks-task-items.result.now {i = c.loop-task.task-index} c.loop-task-test.false))

@@ -1,14 +1,9 @@
--- The common period is worked out task by task. The loop's invariant: what is stored so far, grown by the tasks from the present place on, is that of
--- the whole table.
-use Prim.Native.Nat.{◌-◌}
+-- The common period is worked out task by task. The loop's invariant: what is stored so far, grown by the tasks from the present one on, is that of all.
 use mathlib.Core.Path.{◌≡◌}
-use lib.ListN.{take, drop}
-use Rattle.budget.specs.Common.{grown_by}
-use Rattle.budget.specs.Limits.{most_tasks}
+use lib.ListN.{drop}
+use Rattle.budget.specs.Common.{common_of, grown_by}
+use Rattle.budget.specs.Task.{tasks_of}
 use Rattle.budget.proofs.common.common_of.Given as goal
 
-abbrev pub invariant-loop-place : goal.invariant-loop-place
-invariant-loop-place l = grown_by l.initial.common (take l.count l.tasks) ≡ grown_by l.common (drop l.place (take l.count l.tasks))
-
-abbrev pub decreases-loop-place : goal.decreases-loop-place
-decreases-loop-place l = most_tasks - l.place
+abbrev pub invariant-loop-task : goal.invariant-loop-task
+invariant-loop-task l = common_of l.fn.period.0 (tasks_of l.fn.table) ≡ grown_by l.common (drop l.task-index l.task-items)

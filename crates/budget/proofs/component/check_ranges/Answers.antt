@@ -2,13 +2,15 @@
 use mathlib.Core.Bool.{Bool, true, false, cond, ◌&&◌}
 use mathlib.Core.Path.{◌≡◌, refl, sym, ◌∙◌, ap}
 use native.Mathlib.Omega.{arith}
+use lib.Dec.{ltb}
+use Rattle.std.proofs.lemmas.Result.{err_from_is_err_and}
 use Rattle.budget.specs.Component.{range_refusal, valid_component, interface_of}
 use Rattle.budget.specs.Interface.{valid_interface, interface_refusal}
 use Rattle.budget.specs.Refusal as refusal
 use Rattle.budget.specs.Task.{table_refusal, tasks_of, valid_tasks}
 use Rattle.budget.specs.Limits.{most_tasks}
 use Rattle.budget.specs.declared.component.Component.{Component}
-use lib.Dec.{ltb}
+use Rattle.budget.proofs.Refusals.{some}
 use Rattle.budget.proofs.component.check_ranges.Goals as goal
 
 -- a table that is refused is what the component is refused for, and one that is not leaves the interface
@@ -32,13 +34,14 @@ unrefused_table : (k : Component) → table_refusal k.table ≡ refusal.none →
 unfolding range_refusal valid_component table_refusal interface_refusal
 unrefused_table k e = by_interface (ltb most_tasks k.table.count) (valid_interface (interface_of k)) (valid_tasks (tasks_of k.table)) e
 
-pub returns-then-refused-ne-NONE : goal.returns-then-refused-ne-NONE
-returns-then-refused-ne-NONE c =
-    c.check_table-refused.ensures
-    ∙ refused_table c.args.component (λ z. c.if-refused-ne-NONE.true (c.check_table-refused.ensures ∙ z))
+pub returns-in_err-check_table : goal.returns-in_err-check_table
+returns-in_err-check_table c =
+    let p = err_from_is_err_and c.from_residual.result c.from_residual.ensures.1 in
+    let e = c.in_err-check_table.ensures in
+    rw (p.1, p.2) (e ∙ refused_table c.args.component (λ z. some c.in_err-check_table.field-0.0 (e ∙ z)))
 
 pub returns : goal.returns
 returns c =
     c.check_interface.ensures
     ∙ ap interface_refusal c.interface_of.ensures
-    ∙ unrefused_table _ (sym c.check_table-refused.ensures ∙ c.if-refused-ne-NONE.false)
+    ∙ unrefused_table _ (sym c.in_ok-check_table.ensures)

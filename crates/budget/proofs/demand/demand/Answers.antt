@@ -1,35 +1,38 @@
--- Demand answers as defined: the refusal found, or the sum over a table that is in range.
-use Prim.Native.Nat.{ℕ, ◌≤◌}
-use mathlib.Core.Bool.{true}
-use mathlib.Core.Path.{◌≡◌, sym, ◌∙◌, ap}
+-- Demand answers as defined: the refusal met first, or the sum over a table that is in range.
+use mathlib.Core.Path.{sym}
+use Rattle.std.proofs.lemmas.Result.{err_from_is_err_and}
 use Rattle.budget.specs.Demand.{demand, demand_refusal, demand_answer}
-use Rattle.budget.specs.Limits.{limit, most_tasks}
-use Rattle.budget.specs.Task.{tasks_of, valid_tasks}
-use Rattle.budget.proofs.Answers.{at_instant, instant_passed, answer_refused, demand_given}
+use Rattle.budget.specs.Task.{table_refusal, tasks_of}
+use Rattle.budget.proofs.Answers.{at_first, at_second, instant_passed, answer_refused, demand_given}
 use Rattle.budget.proofs.Ranges.{table_in_range}
+use Rattle.budget.proofs.Refusals.{some}
+use Rattle.budget.proofs.TableLaws.{few}
 use Rattle.budget.proofs.demand.demand.Goals as goal
-use Rattle.budget.proofs.demand.demand.Goals.{After-check_instant-refused, Else-refused-ne-NONE}
 
--- the refusal found is the one defined
-found : (c : After-check_instant-refused) → let a = c.args in c.check_instant-refused.result ≡ demand_refusal a.table a.t.0
-unfolding demand_refusal
-found c = c.check_instant-refused.ensures ∙ ap (λ (n : ℕ). at_instant n c.args.t.0) c.check_table.ensures
+pub returns-in_err-check_table : goal.returns-in_err-check_table
+unfolding demand_answer demand_refusal
+returns-in_err-check_table c =
+    let p = err_from_is_err_and c.from_residual.result c.from_residual.ensures.1 in
+    let h = some c.in_err-check_table.field-0.0 in
+    rw (p.1, p.2)
+    (answer_refused _ (demand_refusal c.args.table c.args.t.0) (demand (tasks_of c.args.table) c.args.t.0)
+    (at_first _ (table_refusal c.args.table) c.args.t.0 c.in_err-check_table.ensures h) h)
 
-pub returns-then-refused-ne-NONE : goal.returns-then-refused-ne-NONE
-unfolding demand_answer
-returns-then-refused-ne-NONE c =
-    let e = found (goal.at.returns-then-refused-ne-NONE c).After-check_instant-refused in
-    let a = c.args in
-    c.no_amount.ensures ∙ rw e (sym (answer_refused (demand_refusal a.table a.t.0) (demand (tasks_of a.table) a.t.0) (λ z. c.if-refused-ne-NONE.true (e ∙ z))))
-
--- where there is none the table and the instant are in range
-known : (c : Else-refused-ne-NONE) → let a = c.args in ((a.table.count ≤ most_tasks) × (valid_tasks (tasks_of a.table) ≡ true)) × (a.t.0 ≤ limit)
-known c =
-    let p = instant_passed _ _ (sym c.check_instant-refused.ensures ∙ c.if-refused-ne-NONE.false) in
-    (table_in_range _ (sym c.check_table.ensures ∙ p.0), p.1)
+pub returns-in_err-check_instant : goal.returns-in_err-check_instant
+unfolding demand_answer demand_refusal
+returns-in_err-check_instant c =
+    let p = err_from_is_err_and c.from_residual-in_err-check_instant.result c.from_residual-in_err-check_instant.ensures.1 in
+    rw (p.1, p.2)
+    (answer_refused _ (demand_refusal c.args.table c.args.t.0) (demand (tasks_of c.args.table) c.args.t.0)
+    (at_second _ (table_refusal c.args.table) c.args.t.0 c.in_ok-check_table.ensures c.in_err-check_instant.ensures)
+    (some c.in_err-check_instant.field-0.0))
 
 pub units_due-requires : goal.units_due-requires
-units_due-requires c = ((known c).0.0, (known c).0.1, (known c).1)
+units_due-requires c =
+    let r = table_in_range _ (sym c.in_ok-check_table.ensures) in
+    rw c.tasks.ensures (few _ r.0, r.1, instant_passed _ c.in_ok-check_instant.ensures)
 
 pub returns : goal.returns
-returns c = rw c.units_due.ensures (sym (demand_given _ _ (known (goal.at.returns c).Else-refused-ne-NONE).0.0 (known (goal.at.returns c).Else-refused-ne-NONE).0.1 (known (goal.at.returns c).Else-refused-ne-NONE).1))
+returns c =
+    let r = table_in_range _ (sym c.in_ok-check_table.ensures) in
+    rw (c.units_due.ensures, c.tasks.ensures) (sym (demand_given _ _ r.0 r.1 (instant_passed _ c.in_ok-check_instant.ensures)))

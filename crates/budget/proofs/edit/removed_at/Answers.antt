@@ -1,63 +1,75 @@
--- A task is removed: the tasks before the place and those after it copied into a table of zeros, and their common period worked out.
-use Prim.Native.Nat.{ℕ, ◌+◌}
-use mathlib.Core.List.{List, [], ◌++◌}
+-- A task is removed: the tasks before the place and those after it copied, and their common period worked out.
+use Prim.Native.Nat.{ℕ, ◌+◌, ◌-◌, ◌≤◌}
+use mathlib.Core.List.{List, ◌++◌}
 use mathlib.Core.Path.{◌≡◌, sym, ◌∙◌, ap}
-use native.Mathlib.Nat.{le_of_lt}
 use native.Mathlib.Numerals.{add-one}
 use native.Mathlib.Omega.{arith}
-use lib.ListN.{take, drop, length-take}
-use lib.Seq.{take-take}
+use lib.ListN.{length, take, drop, length-take, length-drop}
+use lib.Seq.{length-take-le}
+use borrow.Author.Rules.{rules}
+use Rattle.std.proofs.lemmas.List.{take_all}
 use Rattle.budget.specs.declared.task.Table.{Table}
 use Rattle.budget.specs.declared.task.Task.{Task}
+use Rattle.budget.specs.Component.{with_tasks}
 use Rattle.budget.specs.Edit.{removed}
+use Rattle.budget.specs.Limits.{most_tasks}
 use Rattle.budget.specs.Task.{tasks_of, table_of}
 use Rattle.budget.proofs.Edits.{given, removed_none, removed_given}
-use Rattle.budget.proofs.TableLaws.{tasks_are, returned, count_is, after_none}
-use borrow.Author.Rules.{rules}
+use Rattle.budget.proofs.Places.{length_mapped}
+use Rattle.budget.proofs.TableLaws.{few, tasks_are, returned, count_is}
 use Rattle.budget.proofs.edit.removed_at.Goals as goal
-use Rattle.budget.proofs.edit.removed_at.Goals.{After-append_part-before, After-append_part-left}
+use Rattle.budget.proofs.edit.removed_at.Goals.{After-append_all-left}
 
--- the tasks before a place and those after it, put together
-joined : (t r : Table) (ks : List Task) (n : ℕ) → t ≡ table_of (take n ks) → r ≡ table_of (tasks_of t ++ drop (n + 1) ks) → r ≡ table_of (removed ks n)
+-- the tasks before a place and those after it, put together; the part after it is as long as there are tasks left
+joined : (t r : Table) (ks : List Task) (n : ℕ) → t ≡ table_of (take n ks) → r ≡ table_of (tasks_of t ++ take (length ks - (n + 1)) (drop (n + 1) ks)) → r ≡ table_of (removed ks n)
 unfolding removed
-joined t r ks n e f = rw (tasks_are t _ e, add-one n) at f
+joined t r ks n e f =
+    rw (tasks_are t _ e, take_all (length ks - (n + 1)) (drop (n + 1) ks) (omega (arith, length-drop (n + 1) ks)), add-one n) at f
 
--- the tasks before the place, copied
-kept : (c : After-append_part-before) → let a = c.args in c.append_part-before.result ≡ table_of (take a.place (tasks_of a.component.table))
-unfolding tasks_of
-kept c =
-    let a = c.args in
-    after_none c.no_tasks.result _ _ c.no_tasks.ensures c.append_part-before.ensures
-    ∙ ap table_of (sym (take-take a.place a.component.table.count a.component.table.tasks (le_of_lt c.if-count-place.false)))
-
--- and those after it
-shorter : (c : After-append_part-left) → let a = c.args in c.append_part-left.result ≡ table_of (removed (tasks_of a.component.table) a.place)
-unfolding tasks_of
+-- the table that is left is that of the tasks that are
+shorter : (c : After-append_all-left) → c.append_all-left.result ≡ table_of (removed (tasks_of c.args.component.table) c.args.place)
 shorter c =
-    let a = c.args in
-    joined _ _ (tasks_of a.component.table) a.place (kept c.before) c.append_part-left.ensures
+    rw (← c.tasks-tasks.ensures) (joined _ _ c.tasks-tasks.result.now c.args.place c.table_from-before.ensures c.append_all-left.ensures)
 
-pub returns-then-count-place : goal.returns-then-count-place
-returns-then-count-place c = c.no_edit.ensures ∙ sym (removed_none _ _ c.if-count-place.true)
+-- the code counts the tasks that it has, the definition the table's count: they are the same where that is in range
+counted : (t : Table) (ks : List Task) → t.count ≤ most_tasks → length t.tasks ≡ most_tasks → ks ≡ tasks_of t → length ks ≡ t.count
+unfolding tasks_of
+counted t ks h p e = rw e (length-take-le t.count t.tasks (rw p h))
 
-pub append_part-before-requires : goal.append_part-before-requires
-append_part-before-requires c =
-    let few = c.requires in
-    let l = c.if-count-place.false in
-    record { returned = returned _ [] c.no_tasks.ensures; room = (omega (arith, few, l), search rules, omega (arith, count_is _ [] c.no_tasks.ensures, few, l)) }
+pub returns-then-tasks-place : goal.returns-then-tasks-place
+returns-then-tasks-place c =
+    let p : length c.args.component.table.tasks ≡ most_tasks = search (rules, length_mapped) in
+    sym (removed_none _ _ (omega (arith, counted _ _ c.requires p c.tasks-tasks.ensures, c.if-tasks-place.true)))
 
-pub append_part-left-requires : goal.append_part-left-requires
-append_part-left-requires c =
-    let few = c.requires in
-    let l = c.if-count-place.false in
-    let a = c.args in
-    record { returned = returned _ _ (kept c); room = (few, search rules, omega (arith, count_is _ _ (kept c), length-take a.place (tasks_of a.component.table), few, l)) }
+pub table_from-before-requires : goal.table_from-before-requires
+table_from-before-requires c =
+    omega (arith, length-take c.args.place c.tasks-tasks.result.now, ap (λ (l : List Task). length l) c.tasks-tasks.ensures, few c.args.component.table c.requires)
+
+pub append_all-left-requires : goal.append_all-left-requires
+append_all-left-requires c =
+    let ks = c.tasks-tasks.result.now in
+    let n = c.args.place in
+    record {
+      returned = returned _ _ c.table_from-before.ensures;
+      room =
+          omega (
+            arith,
+            count_is _ _ c.table_from-before.ensures,
+            length-take n ks,
+            length-take (length ks - (n + 1)) (drop (n + 1) ks),
+            length-drop (n + 1) ks,
+            ap (λ (l : List Task). length l) c.tasks-tasks.ensures,
+            few c.args.component.table c.requires,
+            c.if-tasks-place.false,
+          );
+    }
 
 pub with_table-requires : goal.with_table-requires
-with_table-requires c = record { returned = returned _ _ (shorter (goal.at.with_table-requires c).After-append_part-left); right = c.common_of-common.ensures }
+with_table-requires c = record { returned = returned _ _ (shorter (goal.at.with_table-requires c).After-append_all-left); right = c.common_of-common.ensures }
 
 pub returns : goal.returns
 returns c =
-    c.with_table.ensures
-    ∙ ap (given c.args.component) (tasks_are _ _ (shorter (goal.at.returns c).After-append_part-left))
-    ∙ sym (removed_given _ _ c.if-count-place.false)
+    let p : length c.args.component.table.tasks ≡ most_tasks = search (rules, length_mapped) in
+    rw c.with_table.ensures
+    (ap (given c.args.component) (tasks_are _ _ (shorter (goal.at.returns c).After-append_all-left))
+    ∙ sym (removed_given _ _ (omega (arith, counted _ _ c.requires p c.tasks-tasks.ensures, c.if-tasks-place.false))))

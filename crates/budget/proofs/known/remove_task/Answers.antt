@@ -1,15 +1,18 @@
 -- Removing a task of a component whose stored value is right answers as defined: what the ranges are refused for, or what is removed of it.
 use mathlib.Core.Path.{sym, ◌∙◌}
+use Rattle.std.proofs.lemmas.Result.{err_from_is_err_and}
 use Rattle.budget.proofs.Edits.{removing_ranges, removing_taken}
 use Rattle.budget.proofs.Ranges.{in_range}
+use Rattle.budget.proofs.Refusals.{some}
 use Rattle.budget.proofs.known.remove_task.Goals as goal
 
-pub returns-then-refused-ne-NONE : goal.returns-then-refused-ne-NONE
-returns-then-refused-ne-NONE c = c.no_edit.ensures ∙ sym (removing_ranges _ _ _ c.check_ranges-refused.ensures c.if-refused-ne-NONE.true)
+pub returns-in_err-check_ranges : goal.returns-in_err-check_ranges
+returns-in_err-check_ranges c =
+    let p = err_from_is_err_and c.from_residual.result c.from_residual.ensures.1 in
+    rw (p.1, p.2) (sym (removing_ranges _ _ _ c.in_err-check_ranges.ensures (some c.in_err-check_ranges.field-0.0)))
 
 pub removed_at-requires : goal.removed_at-requires
-removed_at-requires c = (in_range _ (sym c.check_ranges-refused.ensures ∙ c.if-refused-ne-NONE.false)).count
+removed_at-requires c = (in_range _ (sym c.in_ok-check_ranges.ensures)).count
 
 pub returns : goal.returns
-returns c =
-    c.removed_at.ensures ∙ sym (removing_taken _ _ (in_range _ (sym c.check_ranges-refused.ensures ∙ c.if-refused-ne-NONE.false)) c.requires)
+returns c = c.removed_at.ensures ∙ sym (removing_taken _ _ (in_range _ (sym c.in_ok-check_ranges.ensures)) c.requires)

@@ -1,12 +1,8 @@
--- The tasks of a table are refused as defined. The loop's invariant: what is left to check from the present place on decides for the whole table.
-use Prim.Native.Nat.{◌-◌, ◌≤◌}
+-- Tasks are refused as defined. The loop's invariant: what is left to check from the present task on decides for all.
 use mathlib.Core.Path.{◌≡◌}
-use lib.ListN.{take, drop}
+use lib.ListN.{drop}
 use Rattle.budget.specs.Task.{valid_tasks}
 use Rattle.budget.proofs.task.check_tasks.Given as goal
 
-abbrev pub invariant-loop-place : goal.invariant-loop-place
-invariant-loop-place l = (l.place ≤ l.count) × (valid_tasks (take l.count l.tasks) ≡ valid_tasks (drop l.place (take l.count l.tasks)))
-
-abbrev pub decreases-loop-place : goal.decreases-loop-place
-decreases-loop-place l = l.count - l.place
+abbrev pub invariant-loop-task : goal.invariant-loop-task
+invariant-loop-task l = valid_tasks l.tasks ≡ valid_tasks (drop l.task-index l.tasks)

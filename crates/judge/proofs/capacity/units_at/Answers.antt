@@ -1,6 +1,6 @@
 -- `judge::capacity::units_at` meets its contract: within the limits the supply is answered.
 use mathlib.Core.Path.{◌∙◌, ap}
-use Rattle.budget.specs.declared.quantity.Amount.{Amount}
+use Rattle.budget.specs.Answered.{Amount}
 use Rattle.budget.proofs.Answers.{supply_given}
 use Rattle.judge.proofs.capacity.units_at.Goals as goal
 

@@ -6,7 +6,7 @@ use native.Mathlib.Nat.{le_trans, le_of_eq}
 use native.Mathlib.Omega.{arith}
 use borrow.Author.Tests.{lt-ltb, le-ltb}
 use Rattle.budget.specs.declared.interface.Interface.{Interface}
-use Rattle.budget.specs.declared.quantity.Amount.{Amount}
+use Rattle.budget.specs.Answered.{Amount}
 use Rattle.budget.specs.Supply.{supply}
 use Rattle.budget.proofs.Answers.{supply_given}
 use Rattle.budget.proofs.SupplyLaws.{supply_le_time}
