@@ -5,7 +5,7 @@ use mathlib.Core.List.{List, [], ◌∷◌, ◌++◌}
 use native.Mathlib.Nat.{pow-suc, zero-add, suc-add}
 use native.Mathlib.Numerals.{add-one}
 use native.Mathlib.Omega.{arith}
-use lib.ListN.{length, get_or, take, drop, take-append-drop}
+use lib.ListN.{length, get_or, take, drop, take-append-drop, length-take, length-drop}
 use lib.Seq.{drop-cons, drop-drop}
 use Rattle.record.specs.Field.{encode, field, Bytes}
 
@@ -61,3 +61,21 @@ field_below (suc n) s at b =
     let low : get_or s at 0 < 256 = b at in
     let high : field s (at + 1) n < 256 ^ n = field_below n s (at + 1) b in
     rw pow-suc (omega arith)
+
+-- a field is seen alike in the part that it is
+pub field_part : (n : ℕ) (s : List ℕ) (at : ℕ) → at + n ≤ length s → field (take n (drop at s)) 0 n ≡ field s at n
+unfolding field
+field_part zero s at h = refl
+field_part (suc n) s at h =
+    ap (λ (l : List ℕ). field (take (suc n) l) 0 (suc n)) (drop-cons s at 0 (omega arith))
+    ∙ ap (λ (x : ℕ). get_or s at 0 + 256 * x)
+    (field_shift (get_or s at 0) (take n (drop (suc at) s)) 0 n
+    ∙ (ap (λ (i : ℕ). field (take n (drop i s)) 0 n) (sym (add-one at)) ∙ field_part n s (at + 1) (omega arith)))
+
+-- the part that a field is, as the code lends it
+pub part_long : (n m : ℕ) (s : List ℕ) (at : ℕ) → m ≡ n → at + n ≤ length s → length (take m (drop at s)) ≡ n
+part_long n m s at e h = rw (length-take, length-drop) (omega arith)
+
+pub field_lent : (n m : ℕ) (s : List ℕ) (at x : ℕ) → m ≡ n → at + n ≤ length s → x ≡ field (take m (drop at s)) 0 (length (take m (drop at s))) → x ≡ field s at n
+field_lent n m s at x e h v =
+    v ∙ (ap₂ (λ (a b : ℕ). field (take a (drop at s)) 0 b) e (part_long n m s at e h) ∙ field_part n s at h)

@@ -1,68 +1,74 @@
--- The loops over one field's bytes. Reading goes from the highest byte down, so that the value is always the field that begins at the byte read last; writing keeps what is still to be stored.
-use Prim.Native.Nat.{ℕ, suc, ◌+◌, ◌-◌, ◌*◌, ◌/◌, ◌%◌, ◌^◌, ◌≤◌, ◌<◌}
-use mathlib.Core.Path.{◌≡◌, refl, sym, ap, ap₂, ◌∙◌}
-use mathlib.Core.List.{List}
-use native.Mathlib.Nat.{pow-suc, pow-le-pow_right, lt_of_lt_of_le}
-use native.Mathlib.Numerals.{add-one}
+-- A field against the 4 bytes that the library makes a number of and a number into: a shorter field is their front, and the bytes behind it are 0.
+use Prim.Native.Nat.{ℕ, zero, suc, ◌+◌, ◌-◌, ◌*◌, ◌/◌, ◌%◌, ◌≤◌}
+use mathlib.Core.Path.{◌≡◌, refl, sym, ap, ◌∙◌}
+use mathlib.Core.List.{List, [], ◌∷◌, ◌++◌}
+use native.Mathlib.Nat.{zero-add, suc-add}
 use native.Mathlib.Omega.{arith}
-use lib.ListN.{length, get_or, set, length-set}
-use lib.Seq.{sets}
+use lib.ListN.{length, get_or, take, drop, replicate}
+use Rattle.std.proofs.lemmas.List.{get_or_past, get_or-drop}
+use Rattle.std.specs.Int.{w32, to_le_bytes, from_le_bytes}
 use Rattle.record.specs.Field.{encode, field}
 
--- the bytes from place `left` of the field on are read
-pub record Read (s : List ℕ) (at width value left : ℕ) : Type 0 where
-  pub few : left ≤ width
-  pub is : value ≡ field s (at + left) (width - left)
-  pub fits : value < 256 ^ (width - left)
+-- ---- writing
 
-module _ (s : List ℕ) (at width : ℕ) where
-  pub read_none : Read s at width 0 width
-  unfolding field
-  read_none = let e : width - width ≡ 0 = omega arith in record { few = omega arith; is = rw e; fits = rw e (omega arith) }
+less : (n m x : ℕ) → n ≤ m → take n (encode m x) ≡ encode n x
+unfolding encode
+less zero m x h = refl
+less (suc n) zero x h = absurd (omega arith)
+less (suc n) (suc m) x h = ap (λ (l : List ℕ). x % 256 ∷ l) (less n m (x / 256) (omega arith))
 
-  module _ (value left : ℕ) (r : Read s at width value left) where
-    pub read_more : (byte : ℕ) → 0 < left → byte ≡ get_or s (at + (left - 1)) 0 → byte < 256 → Read s at width (byte + 256 * value) (left - 1)
-    unfolding field
-    read_more byte h e b =
-        let m : width - (left - 1) ≡ suc (width - left) = omega arith in
-        let p : at + left ≡ at + (left - 1) + 1 = omega arith in
-        record {
-          few = omega arith;
-          is = rw m (ap₂ (λ (x y : ℕ). x + 256 * y) e (r.is ∙ ap (λ (i : ℕ). field s i (width - left)) p));
-          fits = rw (m, pow-suc) (omega arith);
-        }
+wide : (x : ℕ) → to_le_bytes w32 x ≡ encode 4 x
+unfolding encode
+wide x =
+    let a : x / 65536 ≡ x / 256 / 256 = omega arith in
+    let b : x / 16777216 ≡ x / 256 / 256 / 256 = omega arith in
+    rw (a, b)
 
-    pub read_all : left ≤ 0 → (value ≡ field s at width) × (value < 256 ^ width)
-    read_all h =
-        let p : at + left ≡ at = omega arith in
-        let q : width - left ≡ width = omega arith in
-        (r.is ∙ ap₂ (field s) p q, rw q at r.fits)
+pub front : (n x : ℕ) → n ≤ 4 → take n (to_le_bytes w32 x) ≡ encode n x
+front n x h = ap (take n) (wide x) ∙ less n 4 x h
 
--- a value of fewer than 4 bytes has room for one byte more
-pub small : (n x : ℕ) → n ≤ 3 → x < 256 ^ n → x < 256 ^ 3
-small n x h b = lt_of_lt_of_le b (pow-le-pow_right {n = 256} (omega arith) h)
+-- ---- reading
 
--- the rest's bytes are still to be stored
-pub record Put (start : List ℕ) (at width value : ℕ) (part : List ℕ) (place rest left : ℕ) : Type 0 where
-  pub todo : sets part place (encode left rest) ≡ sets start at (encode width value)
-  pub long : length part ≡ length start
-  pub here : place + left ≡ at + width
+-- a field sees the bytes in it and no others
+alike : (s t : List ℕ) (at n : ℕ) → ((i : ℕ) → get_or s i 0 ≡ get_or t i 0) → field s at n ≡ field t at n
+unfolding field
+alike s t at zero h = refl
+alike s t at (suc n) h = rw h (ap (λ (x : ℕ). get_or t at 0 + 256 * x) (alike s t (at + 1) n h))
 
-module _ (start : List ℕ) (at width value : ℕ) where
-  pub put_none : Put start at width value start at value width
-  put_none = record { todo = refl; long = refl; here = refl }
+beyond : (s : List ℕ) (at n : ℕ) → ((i : ℕ) → at ≤ i → get_or s i 0 ≡ 0) → field s at n ≡ 0
+unfolding field
+beyond s at zero h = refl
+beyond s at (suc n) h =
+    let e = h at (omega arith) in
+    let f = beyond s (at + 1) n (λ i l. h i (omega arith)) in omega arith
 
-  module _ (part : List ℕ) (place rest left : ℕ) (p : Put start at width value part place rest left) where
-    pub put_more : 0 < left → Put start at width value (set part place (rest % 256)) (place + 1) (rest / 256) (left - 1)
-    unfolding encode
-    put_more h =
-        let n : left ≡ suc (left - 1) = omega arith in
-        record {
-          todo = rw add-one (sym (ap (λ (k : ℕ). sets part place (encode k rest)) n) ∙ p.todo);
-          long = length-set part place (rest % 256) ∙ p.long;
-          here = omega (arith, p.here);
-        }
+-- zeros behind the bytes are as good as none
+zeros : (n i : ℕ) → get_or {A = ℕ} (replicate n 0) i 0 ≡ 0
+zeros zero i = refl
+zeros (suc n) zero = refl
+zeros (suc n) (suc i) = zeros n i
 
-    pub put_all_lem : left ≤ 0 → part ≡ sets start at (encode width value)
-    unfolding encode
-    put_all_lem h = let n : left ≡ 0 = omega arith in rw n at p.todo
+behind : (s t : List ℕ) → ((i : ℕ) → get_or t i 0 ≡ 0) → (i : ℕ) → get_or (s ++ t) i 0 ≡ get_or s i 0
+behind [] t h i = h i
+behind (x ∷ s) t h zero = refl
+behind (x ∷ s) t h (suc i) = behind s t h i
+
+-- nor does a field see further than the bytes go
+cut : (s : List ℕ) (at n m : ℕ) → length s ≤ at + n → field s at (n + m) ≡ field s at n
+unfolding field
+cut s at zero m h = rw zero-add (beyond s at m (λ i l. get_or_past s i 0 (omega arith)))
+cut s at (suc n) m h = rw suc-add (ap (λ (x : ℕ). get_or s at 0 + 256 * x) (cut s (at + 1) n m (omega arith)))
+
+whole : (s : List ℕ) → from_le_bytes w32 s ≡ field s 0 4
+unfolding field
+whole s = omega arith
+
+pub padded : (s t : List ℕ) → length s ≤ 4 → ((i : ℕ) → get_or t i 0 ≡ 0) → from_le_bytes w32 (s ++ t) ≡ field s 0 (length s)
+padded s t h z =
+    let n : length s + (4 - length s) ≡ 4 = omega arith in
+    whole (s ++ t)
+    ∙ (alike (s ++ t) s 0 4 (behind s t z)
+    ∙ (ap (field s 0) (sym n) ∙ cut s 0 (length s) (4 - length s) (omega arith)))
+
+pub zeros_left : (n i : ℕ) → get_or {A = ℕ} (drop n (replicate 4 0)) i 0 ≡ 0
+zeros_left n i = rw get_or-drop (zeros 4 (n + i))

@@ -1,16 +1,20 @@
 -- The kinds of a sheet, one by one: what holds of each listed kind, and of any that isn't listed, holds of every number; the rows are narrow.
 use Prim.Native.Nat.{ℕ, zero, suc}
 use mathlib.Core.Path.{◌≡◌, refl, sym, subst}
-use mathlib.Core.Bool.{Bool, true, ◌&&◌}
+use mathlib.Core.Bool.{Bool, true, false, ◌&&◌}
 use mathlib.Core.List.{List, [], ◌∷◌}
 use native.Mathlib.Omega.{arith}
 use lib.Dec.{leb, eqb}
 use borrow.Author.Tests.{leb-true, eqb-true}
 use Rattle.budget.specs.Refusal as refusal
 use Rattle.budget.proofs.Valid.{both}
-use Rattle.record.specs.declared.layout.Record.TheVariants.{NoRecord}
+use Rattle.record.specs.Record.{NoRecord}
 use Rattle.record.specs.Layout.{stated_row, task_row, end_row, asked_row, late_row, pair_row, no_row, row_of, record_with}
-use Rattle.record.specs.inner.Narrow.{Narrow}
+use Rattle.record.specs.Row.{row_length}
+use Rattle.record.specs.declared.kind.Kind.{Kind}
+use Rattle.record.specs.declared.kind.Kind.TheVariants as kind
+use Rattle.record.specs.inner.Kinds.{kind_number}
+use Rattle.record.specs.inner.Narrow.{Narrow, narrowly}
 use Rattle.record.proofs.Cases.{either}
 
 -- a kind that isn't listed: it has no fields, and no values make it a record
@@ -29,16 +33,18 @@ by_kind P stated task end asked late pair other k =
     (λ e. either (eqb k 6) (λ p. subst P (sym (eqb-true k 6 p)) pair)
     (λ f. other k (record { row = rw (a, b, c, d, e, f); reads = λ vs. rw (a, b, c, d, e, f) })))))))
 
--- the widths of a row, tested
-abbrev pub narrowly : List ℕ → Bool
-narrowly [] = true
-narrowly (w ∷ ws) = leb w 4 && narrowly ws
-
+-- no width of a row that the test takes is above 4
 pub narrow : (ws : List ℕ) → narrowly ws ≡ true → Narrow ws
 narrow [] e i = omega arith
 narrow (w ∷ ws) e zero = leb-true w 4 (both (leb w 4) (narrowly ws) e).0
 narrow (w ∷ ws) e (suc i) = narrow ws (both (leb w 4) (narrowly ws) e).1 i
 
-pub narrow_row : (k : ℕ) → Narrow (row_of k)
+-- each kind of the code has a row
+pub listed : (k : Kind) → eqb (row_length (row_of (kind_number k))) 0 ≡ false
 unfolding row_of
-narrow_row = by_kind (λ (k : ℕ). Narrow (row_of k)) (narrow stated_row refl) (narrow task_row refl) (narrow end_row refl) (narrow asked_row refl) (narrow late_row refl) (narrow pair_row refl) (λ k u. rw u.row (narrow no_row refl))
+listed kind.Stated = refl
+listed kind.Task = refl
+listed kind.End = refl
+listed kind.Asked = refl
+listed kind.Late = refl
+listed kind.Pair = refl

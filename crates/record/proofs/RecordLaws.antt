@@ -10,8 +10,7 @@ use Rattle.budget.specs.Refusal as refusal
 use Rattle.budget.specs.declared.component.Capacity.{Capacity}
 use Rattle.budget.specs.declared.component.Capacity.TheVariants.{Stated, Asked}
 use Rattle.record.specs.declared.layout.Head.{Head}
-use Rattle.record.specs.declared.layout.Record.{Record}
-use Rattle.record.specs.declared.layout.Record.TheVariants.{ComponentRecord, TaskRecord, PairRecord, EndRecord, NoRecord}
+use Rattle.record.specs.Record.{Record, ComponentRecord, TaskRecord, PairRecord, EndRecord, NoRecord}
 use Rattle.record.specs.Field.{encode, field}
 use Rattle.record.specs.Row.{row_length, row_bytes, values_at}
 use Rattle.record.specs.Layout.{row_of, record_with, head_bytes, task_bytes_by, pair_bytes, end_bytes, record_bytes, head_size, task_size, size_of, of_kind, record_of}

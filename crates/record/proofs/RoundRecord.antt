@@ -15,8 +15,7 @@ use Rattle.budget.specs.Component.{units_of}
 use Rattle.budget.specs.Task.{T, C, D, J}
 use Rattle.record.specs.declared.layout.Head.{Head}
 use Rattle.record.specs.declared.layout.Pair.{Pair}
-use Rattle.record.specs.declared.layout.Record.{Record}
-use Rattle.record.specs.declared.layout.Record.TheVariants.{ComponentRecord, TaskRecord, PairRecord, EndRecord, NoRecord}
+use Rattle.record.specs.Record.{Record, ComponentRecord, TaskRecord, PairRecord, EndRecord, NoRecord}
 use Rattle.record.specs.Field.{encode, field, Bytes}
 use Rattle.record.specs.Row.{row_length, row_bytes, values_at}
 use Rattle.record.specs.Layout.{stated_row, asked_row, pair_row, row_of, framed, head_bytes, task_bytes_by, task_bytes, pair_bytes, end_bytes, record_bytes, head_size, task_size, task_of, record_with, of_kind, record_of}

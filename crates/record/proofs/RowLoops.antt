@@ -7,12 +7,15 @@ use native.Mathlib.Numerals.{add-one}
 use native.Mathlib.Decide.{ℕ_discrete}
 use native.Mathlib.Omega.{arith}
 use lib.ListN.{length, get_or, take, drop, set, replicate, length-set, drop_of_length-le}
+use borrow.Rule.Slice.PartMut.{put_mid}
 use lib.Seq.{sets, length-sets, drop-cons, take-suc-set, take_all, get_or-set_same, get_or-set_other}
+use Rattle.std.proofs.lemmas.List.Recursion.{is_sum_by}
+use Rattle.std.specs.List.{sum}
 use Rattle.record.specs.Field.{encode, field}
 use Rattle.record.specs.Row.{row_length, row_bytes, values_at}
 use Rattle.record.specs.inner.Narrow.{Narrow, Held}
-use Rattle.record.proofs.FieldLaws.{length_encode}
-use Rattle.record.proofs.StoreLaws.{sets_append}
+use Rattle.record.proofs.FieldLaws.{length_encode, part_long}
+use Rattle.record.proofs.StoreLaws.{sets_append, part_stored}
 
 -- a row of narrow fields is short
 pub narrow_short : (ws : List ℕ) → Narrow ws → row_length ws ≤ 4 * length ws
@@ -21,6 +24,10 @@ narrow_short (w ∷ ws) n =
     let h : w ≤ 4 = n 0 in
     let r = narrow_short ws (λ i. n (suc i)) in
     omega arith
+
+-- its length is std's sum of its widths
+pub sum_length : (ws : List ℕ) → sum ws ≡ row_length ws
+sum_length ws = sym (is_sum_by row_length (λ x. x) refl (λ _ _. refl) ws)
 
 module _ (ws : List ℕ) (i : ℕ) (h : i < length ws) where
   -- the field at a place, and the row behind it
@@ -102,6 +109,18 @@ module _ (start ws vs : List ℕ) (same : length vs ≡ length ws) where
           long = ap length e ∙ (length-sets part place (encode w v) ∙ r.long);
           here = omega (arith, r.here);
         }
+
+    -- one turn of the loop: a field's part is lent and filled
+    pub storing_part : (width value m next : ℕ) (new : List ℕ) → row_length ws ≤ length start → i < length ws → width ≡ get_or ws i 0 → value ≡ get_or vs i 0
+        → m ≡ width → next ≡ i + 1 → new ≡ encode (length (take m (drop place part))) value → Storing start ws vs (put_mid place m part new) (place + width) next
+    storing_part width value m next new fits h e f k n g =
+        let l = next_length ws i h in
+        let room : place + width ≤ length part = omega (arith, r.here, r.long) in
+        let bytes : new ≡ encode width value = g ∙ ap (λ (n : ℕ). encode n value) (part_long width m part place k room) in
+        let long : length new ≡ width = ap length bytes ∙ length_encode width value in
+        rw (n, e)
+        (storing_more (put_mid place m part new) h
+        (part_stored part place m new (k ∙ sym long) (omega arith) ∙ (ap (sets part place) bytes ∙ ap₂ (λ (a b : ℕ). sets part place (encode a b)) e f)))
 
     pub storing_all : length ws ≤ i → part ≡ sets start 0 (row_bytes ws vs)
     storing_all h = ap (λ (l : List ℕ). sets part place (row_bytes l (drop i vs))) (sym (none_left ws i h)) ∙ r.todo

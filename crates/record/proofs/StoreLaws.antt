@@ -1,15 +1,15 @@
 -- Laws of storing bytes from a place on: one store behind the other, and a store into the part that begins at a place, which is a store into the whole.
 use Prim.Native.Nat.{ℕ, suc, ◌+◌, ◌-◌, ◌≤◌}
 use mathlib.Core.Path.{◌≡◌, refl, sym, ap, ◌∙◌}
-use mathlib.Core.List.{List, [], ◌∷◌, ◌++◌, append-nil}
+use mathlib.Core.List.{List, [], ◌∷◌, ◌++◌, append-nil, append_assoc}
 use native.Mathlib.Omega.{arith}
 use native.Mathlib.Nat.{add-suc, suc-add, add-zero, zero-add, le_of_eq}
 use lib.ListN.{length, take, drop, set, length-drop, take-append-drop, drop_of_length-le}
-use lib.Seq.{sets, sets-eq, take_all, length-take-le}
+use lib.Seq.{sets, sets-eq, take_all, length-take-le, drop-drop}
 use lib.Dec.{leb}
 use borrow.Author.Tests.{leb-true, le-leb}
 use borrow.Rule.Slice.PartMut.{put_mid}
-use Rattle.record.specs.declared.write.Written.{Written}
+use Rattle.record.specs.Writing.{Written}
 use Rattle.record.specs.Writing.{stored, room_refusal, written, buffered}
 use Rattle.record.proofs.Cases.{cases}
 
@@ -32,6 +32,10 @@ sets_part : (l : List ℕ) (p : ℕ) (vs : List ℕ) → p ≤ length l → take
 sets_part l p vs h =
     let n : length (take p l) ≡ p = length-take-le p l h in
     sym (sets_right (take p l) (drop p l) 0 vs) ∙ rw (add-zero, n, take-append-drop)
+
+-- a part that is filled
+pub part_stored : (l : List ℕ) (at m : ℕ) (bytes : List ℕ) → m ≡ length bytes → at + length bytes ≤ length l → put_mid at m l bytes ≡ sets l at bytes
+part_stored l at m bytes e h = rw (e, drop-drop, ← append_assoc) (sym (sets-eq bytes l at h))
 
 -- the part from a place on, as the code lends it
 pub lent : (l : List ℕ) (p : ℕ) → take (length l - p) (drop p l) ≡ drop p l

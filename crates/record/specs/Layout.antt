@@ -7,8 +7,7 @@ use Rattle.budget.specs.Refusal as refusal
 use Rattle.budget.specs.Task.{T, C, D, J}
 use Rattle.record.specs.declared.layout.Head.{Head}
 use Rattle.record.specs.declared.layout.Pair.{Pair}
-use Rattle.record.specs.declared.layout.Record.{Record}
-use Rattle.record.specs.declared.layout.Record.TheVariants.{ComponentRecord, TaskRecord, PairRecord, EndRecord, NoRecord}
+use Rattle.record.specs.Record.{Record, ComponentRecord, TaskRecord, PairRecord, EndRecord, NoRecord}
 use Rattle.record.specs.Field.{field}
 use Rattle.record.specs.Row.{row_length, row_bytes, values_at}
 

@@ -1,5 +1,6 @@
 pub mod Field
 pub mod Row
+pub mod Record
 pub mod Layout
 pub mod Writing
 pub mod Reply

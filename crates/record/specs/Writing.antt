@@ -1,8 +1,18 @@
 -- What storing bytes at a place makes of a buffer, and what a writer answers (RULES 10, 11).
-use Rattle.std.specs.Prelude.{ℕ, ◌+◌, cond, List, [], ◌∷◌, ◌++◌, length, take, drop, leb, eqb}
+use Rattle.std.specs.Prelude.{ℕ, ◌+◌, cond, List, [], ◌∷◌, ◌++◌, length, take, drop, leb, eqb, Result, Ok, Err}
+use Rattle.budget.specs.declared.refusal.Refusal.{Refusal}
 use Rattle.budget.specs.Refusal as refusal
-use Rattle.record.specs.declared.write.Written.{Written}
 use Rattle.record.specs.Row.{row_bytes}
+
+-- what a writer answers, in the numbers of RULES 12: the place behind what was written; refused: 0
+pub record Written : Type 0 where
+  pub refusal : ℕ
+  pub place : ℕ
+
+-- how the code's answer is read as such
+abbrev pub written_in : Result ℕ Refusal → Written
+written_in (Ok place) = record { refusal = refusal.none; place = place }
+written_in (Err r) = record { refusal = refusal.number_of r; place = 0 }
 
 -- the buffer with the bytes stored from a place on: every other byte stays
 unfoldable pub stored : List ℕ → ℕ → List ℕ → List ℕ

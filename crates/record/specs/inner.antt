@@ -1,3 +1,4 @@
 -- What only contracts inside this crate cite. A caller's promise rests on none of it.
 pub mod Fields
+pub mod Kinds
 pub mod Narrow

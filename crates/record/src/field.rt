@@ -1,42 +1,26 @@
 // One field of a record: a number in so many bytes, its lowest byte first (RULES 10).
-ghost use Rattle.std.specs.Prelude.{◌≡◌, ◌+◌, ◌^◌, ◌≤◌, ◌<◌, length};
-ghost use Rattle.std.proofs.lemmas.List.Edits.{sets};
+ghost use Rattle.std.specs.Prelude.{◌≡◌, ◌^◌, ◌≤◌, ◌<◌, length};
 ghost use Rattle.record.specs.Field.{encode, field};
 
-fn wide(byte: u8) -> u32
-    ensures { (result ≡ byte) × (result < 256) }
+// The most bytes of a field.
+const WIDEST: usize = 4;
+
+// The number that stands in a field.
+pub(crate) fn number_in(bytes: &[u8]) -> u32
+    requires { length bytes.now ≤ 4 }
+    ensures value { result ≡ field bytes.now 0 (length bytes.now) }
+    ensures fits { result < 256 ^ length bytes.now }
 {
-    byte as u32
+    let mut wide = [0; WIDEST];
+    wide[..bytes.len()].copy_from_slice(bytes);
+    u32::from_le_bytes(wide)
 }
 
-// The number that stands in the bytes from a place on.
-pub(crate) fn field_at(bytes: &[u8], at: usize, width: usize) -> u32
-    requires { (at + width ≤ length bytes.now) × (width ≤ 4) }
-    ensures value { result ≡ field bytes.now at width }
-    ensures fits { result < 256 ^ width }
+// Fills a field with a number.
+pub(crate) fn put_number(bytes: &mut [u8], number: u32)
+    requires { length bytes.old ≤ 4 }
+    ensures { bytes.new ≡ encode (length bytes.old) number }
 {
-    let mut value = 0;
-    let mut unread = width;
-    while 0 < unread {
-        unread -= 1;
-        let place = at + unread;
-        value = wide(bytes[place]) + 256 * value;
-    }
-    value
-}
-
-// Puts a number into the bytes from a place on.
-pub(crate) fn put_field(part: &mut [u8], at: usize, width: usize, value: u32)
-    requires { at + width ≤ length part.old }
-    ensures { part.new ≡ sets part.old at (encode width value) }
-{
-    let mut place = at;
-    let mut rest = value;
-    let mut left = width;
-    while 0 < left {
-        part[place] = (rest % 256) as u8;
-        rest = rest / 256;
-        place += 1;
-        left -= 1;
-    }
+    let wide = number.to_le_bytes();
+    bytes.copy_from_slice(&wide[..bytes.len()]);
 }

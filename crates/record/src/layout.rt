@@ -1,13 +1,17 @@
 // The records of a sheet (RULES 10): each kind is a row of fields. Reading one judges its layout and none of its values.
 ghost use Rattle.std.specs.Prelude.{◌≡◌, ◌<◌, get_or};
 ghost use Rattle.record.specs.Layout.{row_of, record_with, of_kind, record_of, task_of, stated_of, asked_of, pair_of};
+ghost use Rattle.record.specs.Record.{said, record_in};
+ghost use Rattle.record.specs.inner.Fields.{head_kind, head_fields, fields_of, kind_of};
+ghost use Rattle.record.specs.inner.Kinds.{kind_number};
 ghost use Rattle.record.specs.inner.Narrow.{Held};
 
-use crate::field::field_at;
-use crate::row::{Row, Values, row_length, values_at};
+use crate::field::number_in;
+use crate::kind::Kind;
+use crate::row::Values;
 use budget::component::Capacity;
 use budget::quantity::{Time, Units};
-use budget::refusal;
+use budget::refusal::Refusal;
 use budget::task::Task;
 
 // What a component record says: the component without its tasks.
@@ -26,52 +30,80 @@ pub struct Pair {
     pub parent: u16,
 }
 
-// What begins at a place of a sheet: a record, or the refusal where none does. Of a task it is told whether its J is stated; behind
-// the task that flag made the check of a sheet of tasks slower by 15 to 24 in a hundred (measured).
+// A record. Of a task it is told whether its J is stated; behind the task that flag made the check of a sheet of tasks slower by 15
+// to 24 in a hundred (measured).
 #[derive(Clone, Copy)]
 pub enum Record {
-    ComponentRecord(Head),
-    TaskRecord(bool, Task),
-    PairRecord(Pair),
-    EndRecord(u16),
-    NoRecord(u16),
+    Component(Head),
+    Task { stated: bool, task: Task },
+    Pair(Pair),
+    End(u16),
 }
 
-// The kinds of a sheet.
-pub(crate) const STATED: u16 = 1;
+impl Head {
+    fn kind(self) -> Kind
+        ensures { kind_number result ≡ head_kind self.capacity }
+    {
+        match self.capacity {
+            Capacity::Stated(_) => Kind::Stated,
+            Capacity::Asked => Kind::Asked,
+        }
+    }
 
-pub(crate) const TASK: u16 = 2;
-
-pub(crate) const END: u16 = 3;
-
-pub(crate) const ASKED: u16 = 4;
-
-pub(crate) const LATE: u16 = 5;
-
-pub(crate) const PAIR: u16 = 6;
-
-// The widths of a kind's fields: length, kind, then what it says; a kind that is not in the list has none.
-#[tactic(auto, unfolding(crate::specs::Layout::row_of))]
-pub(crate) fn row_of(kind: u16) -> Row
-    ensures { result ≡ row_of kind }
-{
-    match kind {
-        STATED => [2, 2, 2, 4, 4, 4, 0, 0],
-        TASK => [2, 2, 4, 4, 4, 0, 0, 0],
-        END => [2, 2, 2, 0, 0, 0, 0, 0],
-        ASKED => [2, 2, 2, 4, 4, 0, 0, 0],
-        LATE => [2, 2, 4, 4, 4, 4, 0, 0],
-        PAIR => [2, 2, 2, 2, 0, 0, 0, 0],
-        _ => [0, 0, 0, 0, 0, 0, 0, 0],
+    fn fields(self) -> Values
+        ensures { result ≡ head_fields self self.capacity }
+    {
+        let number = u32::from(self.number);
+        let period = self.period.0;
+        let deadline = self.deadline.0;
+        match self.capacity {
+            Capacity::Stated(units) => [0, 0, number, period, units.0, deadline, 0, 0],
+            Capacity::Asked => [0, 0, number, period, deadline, 0, 0, 0],
+        }
     }
 }
 
-// A value of a field of 2 bytes.
-fn number(value: u32) -> u16
-    requires { value < 65_536 }
-    ensures { result ≡ value }
-{
-    value as u16
+impl Record {
+    pub(crate) fn kind(self) -> Kind
+        ensures { kind_number result ≡ kind_of (said self) }
+    {
+        match self {
+            Record::Component(head) => head.kind(),
+            Record::Task { stated, .. } => if stated { Kind::Late } else { Kind::Task },
+            Record::Pair(_) => Kind::Pair,
+            Record::End(_) => Kind::End,
+        }
+    }
+
+    // The values of its row, with 0 for its length and its kind.
+    pub(crate) fn fields(self) -> Values
+        ensures { result ≡ fields_of (said self) }
+    {
+        match self {
+            Record::Component(head) => head.fields(),
+            Record::Task { task, .. } => [
+                0,
+                0,
+                task.period.0,
+                task.work.0,
+                task.deadline.0,
+                task.lateness.0,
+                0,
+                0,
+            ],
+            Record::Pair(pair) => [
+                0,
+                0,
+                u32::from(pair.child),
+                u32::from(pair.parent),
+                0,
+                0,
+                0,
+                0,
+            ],
+            Record::End(count) => [0, 0, u32::from(count), 0, 0, 0, 0, 0],
+        }
+    }
 }
 
 fn stated_of(values: Values) -> Head
@@ -79,7 +111,7 @@ fn stated_of(values: Values) -> Head
     ensures { result ≡ stated_of values }
 {
     Head {
-        number: number(values[2]),
+        number: values[2] as u16,
         period: Time(values[3]),
         capacity: Capacity::Stated(Units(values[4])),
         deadline: Time(values[5]),
@@ -91,7 +123,7 @@ fn asked_of(values: Values) -> Head
     ensures { result ≡ asked_of values }
 {
     Head {
-        number: number(values[2]),
+        number: values[2] as u16,
         period: Time(values[3]),
         capacity: Capacity::Asked,
         deadline: Time(values[4]),
@@ -114,61 +146,62 @@ fn pair_of(values: Values) -> Pair
     ensures { result ≡ pair_of values }
 {
     Pair {
-        child: number(values[2]),
-        parent: number(values[3]),
+        child: values[2] as u16,
+        parent: values[3] as u16,
     }
 }
 
 // The record of a kind with these values.
 #[tactic(auto, unfolding(crate::specs::Layout::row_of, crate::specs::Layout::record_with))]
-fn record_with(kind: u16, values: Values) -> Record
-    requires { Held (row_of kind) values }
-    ensures { result ≡ record_with kind values }
+fn record_with(kind: Kind, values: Values) -> Record
+    requires { Held (row_of (kind_number kind)) values }
+    ensures { said result ≡ record_with (kind_number kind) values }
 {
     match kind {
-        STATED => Record::ComponentRecord(stated_of(values)),
-        TASK => Record::TaskRecord(false, task_of(values, 0)),
-        END => Record::EndRecord(number(values[2])),
-        ASKED => Record::ComponentRecord(asked_of(values)),
-        LATE => Record::TaskRecord(true, task_of(values, values[5])),
-        PAIR => Record::PairRecord(pair_of(values)),
-        _ => Record::NoRecord(refusal::KIND),
+        Kind::Stated => Record::Component(stated_of(values)),
+        Kind::Task => Record::Task {
+            stated: false,
+            task: task_of(values, 0),
+        },
+        Kind::End => Record::End(values[2] as u16),
+        Kind::Asked => Record::Component(asked_of(values)),
+        Kind::Late => Record::Task {
+            stated: true,
+            task: task_of(values, values[5]),
+        },
+        Kind::Pair => Record::Pair(pair_of(values)),
     }
 }
 
 // The record of a kind. Nothing else calls values_at: a second caller keeps the compiler from building it in here, and halves the
 // speed of reading (measured over a whole sheet).
-fn of_kind(rest: &[u8], kind: u16, size: usize) -> Record
-    ensures { result ≡ of_kind rest.now kind size }
+fn of_kind(rest: &[u8], kind: Kind, size: usize) -> Result<Record, Refusal>
+    ensures { record_in result ≡ of_kind rest.now (kind_number kind) size }
 {
-    let row = row_of(kind);
-    let length = row_length(row);
-    if length == 0 {
-        return Record::NoRecord(refusal::KIND);
-    }
+    let row = kind.row();
+    let length = row.length();
     if size != length {
-        return Record::NoRecord(refusal::LENGTH);
+        return Err(Refusal::Length);
     }
     if rest.len() < length {
-        return Record::NoRecord(refusal::CUT);
+        return Err(Refusal::Cut);
     }
-    let values = values_at(rest, row);
-    record_with(kind, values)
+    Ok(record_with(kind, row.values_at(rest)))
 }
 
 // The record that begins what is left of a sheet. Most records are tasks: their kind goes in as a constant, so that the compiler
 // knows the row and reads it without a loop.
 #[tactic(auto, unfolding(crate::specs::Layout::record_of))]
-pub fn record_of(rest: &[u8]) -> Record
-    ensures { result ≡ record_of rest.now }
+pub fn record_of(rest: &[u8]) -> Result<Record, Refusal>
+    ensures { record_in result ≡ record_of rest.now }
 {
     if rest.len() < 4 {
-        return Record::NoRecord(refusal::CUT);
+        return Err(Refusal::Cut);
     }
-    let kind = number(field_at(rest, 2, 2));
-    let size = field_at(rest, 0, 2) as usize;
-    if kind == TASK {
-        return of_kind(rest, TASK, size);
+    let number = number_in(&rest[2..4]) as u16;
+    let size = number_in(&rest[..2]) as usize;
+    match Kind::try_from(number)? {
+        Kind::Task => of_kind(rest, Kind::Task, size),
+        kind => of_kind(rest, kind, size),
     }
-    of_kind(rest, kind, size)
 }

@@ -2,6 +2,7 @@
 #![tactic(auto)]
 
 mod field;
+mod kind;
 pub mod layout;
 pub mod reply;
 mod row;

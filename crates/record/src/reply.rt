@@ -1,11 +1,12 @@
 // What a host is answered on one component: a record in the sheet's encoding (RULES 14).
 ghost use Rattle.std.specs.Prelude.{◌≡◌, length};
 ghost use Rattle.record.specs.Reply.{reply_row, reply_bytes};
-ghost use Rattle.record.specs.Writing.{room_refusal, written, buffered};
+ghost use Rattle.record.specs.Writing.{room_refusal, written, written_in, buffered};
 
 use crate::row::Row;
-use crate::write::{Written, headed, write_row};
+use crate::write::write_row;
 use budget::quantity::{Time, Units};
+use budget::refusal::Refusal;
 
 // The fields of a reply; the margin is the signed number's two's complement.
 #[derive(Clone, Copy)]
@@ -21,28 +22,29 @@ pub struct Reply {
 const REPLY: u16 = 16;
 
 fn reply_row() -> Row
-    ensures { result ≡ reply_row }
+    ensures { result.widths ≡ reply_row }
 {
-    [2, 2, 2, 2, 4, 4, 4, 4]
+    Row {
+        widths: [2, 2, 2, 2, 4, 4, 4, 4],
+    }
 }
 
 // Writes a reply from a place on, and answers the place behind it.
 #[tactic(auto, unfolding(crate::specs::Reply::reply_bytes, crate::specs::Field::encode))]
-pub fn write_reply(buffer: &mut [u8], at: usize, reply: Reply) -> Written
-    ensures answer { result ≡ written (room_refusal (length buffer.old) at 24) at (reply_bytes reply) }
+pub fn write_reply(buffer: &mut [u8], at: usize, reply: Reply) -> Result<usize, Refusal>
+    ensures answer { written_in result ≡ written (room_refusal (length buffer.old) at 24) at (reply_bytes reply) }
     ensures bytes { buffer.new ≡ buffered (room_refusal (length buffer.old) at 24) buffer.old at (reply_bytes reply) }
 {
-    let number = reply.number as u32;
-    let code = reply.code as u32;
-    let capacity = reply.capacity.0;
-    let instant = reply.instant.0;
-    let margin = reply.margin;
-    let stands = reply.stands.0;
+    let fields = [
+        0,
+        0,
+        u32::from(reply.number),
+        u32::from(reply.code),
+        reply.capacity.0,
+        reply.instant.0,
+        reply.margin,
+        reply.stands.0,
+    ];
     let row = reply_row();
-    let values = headed(
-        row,
-        REPLY,
-        [0, 0, number, code, capacity, instant, margin, stands],
-    );
-    write_row(buffer, at, row, values)
+    write_row(buffer, at, row, row.headed(REPLY, fields))
 }

@@ -1,61 +1,71 @@
 // Rows of fields: the widths of a record's fields in their order, and the values that stand in them.
-ghost use Rattle.std.specs.Prelude.{◌≡◌, ◌≤◌, length};
+ghost use Rattle.std.specs.Prelude.{◌≡◌, ◌≤◌, length, IsTrue};
 ghost use Rattle.std.proofs.lemmas.List.Edits.{sets};
 ghost use Rattle.record.specs.Row.{row_length, row_bytes, values_at};
-ghost use Rattle.record.specs.inner.Narrow.{Narrow, Held};
+ghost use Rattle.record.specs.inner.Fields.{headed};
+ghost use Rattle.record.specs.inner.Narrow.{narrowly, Held};
 
-use crate::field::{field_at, put_field};
+use crate::field::{number_in, put_number};
 
-// The most fields that a record has, its length and its kind among them; a width of 0 fills up.
-pub const FIELDS: usize = 8;
+// The most fields that a record has, its length and its kind among them.
+const FIELDS: usize = 8;
 
-pub type Row = [usize; FIELDS];
-
-pub type Values = [u32; FIELDS];
-
-// The bytes of a row: its widths together.
-pub(crate) fn row_length(row: Row) -> usize
-    requires { Narrow row }
-    ensures { result ≡ row_length row }
-{
-    let mut sum = 0;
-    let mut i = 0;
-    while i < FIELDS {
-        sum += row[i];
-        i += 1;
-    }
-    sum
+// The widths of a row's fields; a width of 0 fills up. The widths in specs/Layout.antt are filled up too, and an array of one size is
+// read without a loop.
+#[derive(Clone, Copy)]
+pub(crate) struct Row {
+    pub(crate) widths: [usize; FIELDS],
+    ghost narrow: { IsTrue (narrowly widths) },
 }
 
-// The values that stand in the row that begins a slice.
-pub(crate) fn values_at(bytes: &[u8], row: Row) -> Values
-    requires { Narrow row × (row_length row ≤ length bytes.now) }
-    ensures values { result ≡ values_at row bytes.now 0 }
-    ensures fit { Held row result }
-{
-    let mut values = [0; FIELDS];
-    let mut place = 0;
-    let mut i = 0;
-    while i < FIELDS {
-        let width = row[i];
-        values[i] = field_at(bytes, place, width);
-        place += width;
-        i += 1;
-    }
-    values
-}
+// The values of a row's fields; behind the last it is 0.
+pub(crate) type Values = [u32; FIELDS];
 
-// Puts a row of values into the bytes that begin a part.
-pub(crate) fn put_row(part: &mut [u8], row: Row, values: Values)
-    requires { row_length row ≤ length part.old }
-    ensures { part.new ≡ sets part.old 0 (row_bytes row values) }
-{
-    let mut place = 0;
-    let mut i = 0;
-    while i < FIELDS {
-        let width = row[i];
-        put_field(part, place, width, values[i]);
-        place += width;
-        i += 1;
+impl Row {
+    // The bytes of a row: its widths together.
+    pub(crate) fn length(self) -> usize
+        ensures length { result ≡ row_length self.widths }
+        ensures short { result ≤ 32 }
+    {
+        self.widths.iter().sum()
+    }
+
+    // The values that stand in the row that begins a slice.
+    pub(crate) fn values_at(self, bytes: &[u8]) -> Values
+        requires { row_length self.widths ≤ length bytes.now }
+        ensures values { result ≡ values_at self.widths bytes.now 0 }
+        ensures fit { Held self.widths result }
+    {
+        let mut values = [0; FIELDS];
+        let mut place = 0;
+        for (i, width) in self.widths.iter().enumerate() {
+            let behind = place + *width;
+            values[i] = number_in(&bytes[place..behind]);
+            place = behind;
+        }
+        values
+    }
+
+    // The values of a record: in front of its fields the length that its row gives it, and its kind.
+    pub(crate) fn headed(self, kind: u16, fields: Values) -> Values
+        ensures { result ≡ headed self.widths kind fields }
+    {
+        let mut values = fields;
+        values[0] = self.length() as u32;
+        values[1] = u32::from(kind);
+        values
+    }
+
+    // Puts a row of values into the bytes that begin a part.
+    pub(crate) fn put(self, part: &mut [u8], values: Values)
+        requires { row_length self.widths ≤ length part.old }
+        ensures { part.new ≡ sets part.old 0 (row_bytes self.widths values) }
+    {
+        let mut place = 0;
+        for (width, value) in self.widths.iter().zip(values.iter()) {
+            let behind = place + *width;
+            put_number(&mut part[place..behind], *value);
+            place = behind;
+        }
     }
 }

@@ -11,8 +11,7 @@ use lib.Dec.{leb, ltb, eqb}
 use borrow.Author.Tests.{leb-true, leb-false, le-leb, lt-ltb, le-ltb, ltb-true, eqb-true, eqb-false, ne_eqb}
 use Rattle.budget.proofs.Valid.{both, and_true}
 use Rattle.record.specs.declared.layout.Pair.{Pair}
-use Rattle.record.specs.declared.layout.Record.{Record}
-use Rattle.record.specs.declared.layout.Record.TheVariants.{PairRecord}
+use Rattle.record.specs.Record.{Record, PairRecord}
 use Rattle.record.specs.Layout.{size_of, record_of}
 use Rattle.record.proofs.Cases.{cases, either}
 use Rattle.sheet.specs.declared.pairs.Course.{Course}

@@ -12,8 +12,7 @@ use Rattle.budget.specs.Component.{units_of}
 use Rattle.budget.specs.Interface.{interface, interface_refusal}
 use Rattle.budget.specs.Task.{J, task_refusal}
 use Rattle.record.specs.declared.layout.Head.{Head}
-use Rattle.record.specs.declared.layout.Record.{Record}
-use Rattle.record.specs.declared.layout.Record.TheVariants.{ComponentRecord, TaskRecord, PairRecord, EndRecord, NoRecord}
+use Rattle.record.specs.Record.{Record, ComponentRecord, TaskRecord, PairRecord, EndRecord, NoRecord}
 use Rattle.record.specs.Layout.{head_size, task_size, size_of}
 use Rattle.record.proofs.Cases.{cases}
 use Rattle.sheet.specs.declared.judging.State.{State}

@@ -10,8 +10,7 @@ use lib.Dec.{leb, ltb, eqb}
 use borrow.Author.Tests.{leb-false, ltb-true, eqb-true, eq-eqb}
 use Rattle.budget.proofs.Valid.{both}
 use Rattle.record.specs.declared.layout.Pair.{Pair}
-use Rattle.record.specs.declared.layout.Record.{Record}
-use Rattle.record.specs.declared.layout.Record.TheVariants.{ComponentRecord, TaskRecord, PairRecord, EndRecord, NoRecord}
+use Rattle.record.specs.Record.{Record, ComponentRecord, TaskRecord, PairRecord, EndRecord, NoRecord}
 use Rattle.record.specs.Field.{field}
 use Rattle.record.specs.Row.{row_length, values_at}
 use Rattle.record.specs.Layout.{row_of, record_with, size_of, of_kind, record_of}

@@ -9,7 +9,7 @@ use lib.ListN.{length, take, drop, length-drop}
 use lib.Seq.{take_all}
 use lib.Dec.{leb}
 use borrow.Author.Tests.{le-leb, lt-leb, leb-true, leb-false}
-use Rattle.record.specs.declared.layout.Record.{Record}
+use Rattle.record.specs.Record.{Record}
 use Rattle.record.specs.Layout.{size_of, record_of}
 use Rattle.record.proofs.Cases.{cases, either}
 use Rattle.record.proofs.RecordLaws.{size_within}

@@ -4,8 +4,7 @@ use Rattle.std.specs.Prelude.{ℕ, zero, suc, ◌+◌, ◌-◌, ◌≡◌, Bool,
 use Rattle.budget.specs.Limits.{most_tasks}
 use Rattle.budget.specs.Refusal as refusal
 use Rattle.record.specs.declared.layout.Pair.{Pair}
-use Rattle.record.specs.declared.layout.Record.{Record}
-use Rattle.record.specs.declared.layout.Record.TheVariants.{ComponentRecord, TaskRecord, PairRecord, EndRecord, NoRecord}
+use Rattle.record.specs.Record.{Record, ComponentRecord, TaskRecord, PairRecord, EndRecord, NoRecord}
 use Rattle.record.specs.Layout.{size_of, record_of}
 use Rattle.sheet.specs.Register.{Entry, register_of, walked}
 

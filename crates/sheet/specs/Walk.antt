@@ -1,6 +1,6 @@
 -- The walk over a row of bytes, record by record, for any way of judging one record; and where it stood with each count of components.
 use Rattle.std.specs.Prelude.{ℕ, zero, suc, ◌+◌, ◌≤◌, ◌<◌, true, false, cond, List, ◌≡◌, drop, leb}
-use Rattle.record.specs.declared.layout.Record.{Record}
+use Rattle.record.specs.Record.{Record}
 use Rattle.record.specs.Layout.{size_of, record_of}
 use Rattle.sheet.specs.declared.judging.State.{State}
 use Rattle.sheet.specs.Judging.{most_components}

@@ -18,8 +18,7 @@ use Rattle.budget.proofs.Places.{places}
 use Rattle.budget.proofs.Ranges.{in_range}
 use Rattle.budget.proofs.Valid.{valid_task_lem, valid_interface_lem, both}
 use Rattle.record.specs.declared.layout.Pair.{Pair}
-use Rattle.record.specs.declared.layout.Record.{Record}
-use Rattle.record.specs.declared.layout.Record.TheVariants.{ComponentRecord, PairRecord, EndRecord}
+use Rattle.record.specs.Record.{Record, ComponentRecord, PairRecord, EndRecord}
 use Rattle.record.specs.Layout.{head_bytes, task_bytes, size_of, record_of}
 use Rattle.record.proofs.RoundRecord.{head, head_back, task_back}
 use Rattle.sheet.specs.declared.judging.State.{State}

@@ -11,8 +11,7 @@ use lib.Dec.{eqb}
 use borrow.Author.Tests.{eqb-true}
 use Rattle.budget.specs.declared.component.Component.{Component}
 use Rattle.record.specs.declared.layout.Pair.{Pair}
-use Rattle.record.specs.declared.layout.Record.{Record}
-use Rattle.record.specs.declared.layout.Record.TheVariants.{PairRecord, EndRecord}
+use Rattle.record.specs.Record.{Record, PairRecord, EndRecord}
 use Rattle.record.specs.Field.{Bytes}
 use Rattle.record.specs.Layout.{pair_bytes, end_bytes, size_of, record_of}
 use Rattle.record.proofs.Cases.{either}

@@ -6,8 +6,7 @@ use native.Mathlib.Omega.{arith}
 use lib.ListN.{length, take, drop, set, replicate, length-append, length-map}
 use lib.Seq.{append_snoc, set_at}
 use Rattle.record.specs.declared.layout.Pair.{Pair}
-use Rattle.record.specs.declared.layout.Record.{Record}
-use Rattle.record.specs.declared.layout.Record.TheVariants.{PairRecord}
+use Rattle.record.specs.Record.{Record, PairRecord}
 use Rattle.record.specs.Layout.{size_of, record_of}
 use Rattle.transfer.specs.declared.pair.Pairs.{Pairs}
 use Rattle.transfer.specs.Pairing.{pair_then, pairs_in, pair_table}

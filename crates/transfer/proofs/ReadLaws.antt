@@ -10,8 +10,7 @@ use Rattle.budget.specs.declared.task.Table.{Table}
 use Rattle.budget.specs.declared.task.Task.{Task}
 use Rattle.budget.specs.Task.{table_of, appended}
 use Rattle.budget.proofs.TableLaws.{append_returned}
-use Rattle.record.specs.declared.layout.Record.{Record}
-use Rattle.record.specs.declared.layout.Record.TheVariants.{TaskRecord}
+use Rattle.record.specs.Record.{Record, TaskRecord}
 use Rattle.record.specs.Layout.{size_of, record_of}
 use Rattle.sheet.specs.declared.check.Checked.{Checked}
 use Rattle.sheet.specs.Check.{check}

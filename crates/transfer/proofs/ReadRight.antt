@@ -10,8 +10,7 @@ use Rattle.budget.specs.Refusal as refusal
 use Rattle.budget.proofs.CommonLaws.{refused_right}
 use Rattle.budget.proofs.TableLaws.{tasks_of_table}
 use Rattle.record.specs.declared.layout.Head.{Head}
-use Rattle.record.specs.declared.layout.Record.{Record}
-use Rattle.record.specs.declared.layout.Record.TheVariants.{ComponentRecord, TaskRecord, PairRecord, EndRecord, NoRecord}
+use Rattle.record.specs.Record.{Record, ComponentRecord, TaskRecord, PairRecord, EndRecord, NoRecord}
 use Rattle.record.specs.Layout.{record_of}
 use Rattle.record.proofs.Cases.{cases}
 use Rattle.sheet.specs.Part.{part_check, part_of}

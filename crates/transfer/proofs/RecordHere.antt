@@ -4,7 +4,7 @@ use mathlib.Core.Path.{◌≡◌, sym, ap, ◌∙◌}
 use mathlib.Core.List.{List}
 use lib.ListN.{length, take, drop}
 use lib.Seq.{drop-drop}
-use Rattle.record.specs.declared.layout.Record.{Record}
+use Rattle.record.specs.Record.{Record}
 use Rattle.record.specs.Layout.{size_of, record_of}
 use Rattle.sheet.proofs.WalkLaws.{rest_is, room_of}
 

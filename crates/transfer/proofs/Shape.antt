@@ -20,8 +20,7 @@ use Rattle.budget.proofs.Valid.{and_true}
 use Rattle.transfer.proofs.ReadRight.{head_right}
 use Rattle.sheet.specs.declared.judging.State.{State}
 use Rattle.record.specs.declared.layout.Head.{Head}
-use Rattle.record.specs.declared.layout.Record.{Record}
-use Rattle.record.specs.declared.layout.Record.TheVariants.{ComponentRecord, TaskRecord, PairRecord, EndRecord, NoRecord}
+use Rattle.record.specs.Record.{Record, ComponentRecord, TaskRecord, PairRecord, EndRecord, NoRecord}
 use Rattle.record.specs.Field.{Bytes}
 use Rattle.record.specs.Layout.{head_bytes, head_size, task_bytes_by, task_bytes, task_size, record_bytes, size_of, record_of}
 use Rattle.sheet.specs.Judging.{most_bytes, start, refuse, opened, record_refusal, after_head, after_task, after, judged}

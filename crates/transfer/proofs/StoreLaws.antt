@@ -17,9 +17,8 @@ use Rattle.budget.specs.Component.{held_refusal}
 use Rattle.budget.specs.Task.{J, no_task, tasks_of}
 use Rattle.budget.proofs.Places.{from_place, from_end}
 use Rattle.record.specs.declared.layout.Pair.{Pair}
-use Rattle.record.specs.declared.layout.Record.{Record}
-use Rattle.record.specs.declared.layout.Record.TheVariants.{ComponentRecord, TaskRecord, PairRecord, EndRecord}
-use Rattle.record.specs.declared.write.Written.{Written}
+use Rattle.record.specs.Record.{Record, ComponentRecord, TaskRecord, PairRecord, EndRecord}
+use Rattle.record.specs.Writing.{Written}
 use Rattle.record.specs.Layout.{head_bytes, head_size, task_bytes, task_size, pair_bytes, end_bytes, record_bytes, size_of}
 use Rattle.record.specs.Writing.{stored, room_refusal, written, buffered}
 use Rattle.transfer.specs.Writing.{tasks_bytes, component_bytes, writing_refusal}

@@ -8,8 +8,7 @@ use Rattle.budget.specs.Limits.{most_tasks}
 use Rattle.budget.specs.Refusal as refusal
 use Rattle.budget.specs.Task.{table_of}
 use Rattle.record.specs.declared.layout.Head.{Head}
-use Rattle.record.specs.declared.layout.Record.{Record}
-use Rattle.record.specs.declared.layout.Record.TheVariants.{ComponentRecord, TaskRecord, PairRecord, EndRecord, NoRecord}
+use Rattle.record.specs.Record.{Record, ComponentRecord, TaskRecord, PairRecord, EndRecord, NoRecord}
 use Rattle.record.specs.Layout.{size_of, record_of}
 use Rattle.sheet.specs.Part.{part_check, part_of}
 use Rattle.transfer.specs.declared.read.Reading.{Reading}

@@ -5,7 +5,7 @@ use Rattle.budget.specs.Limits.{most_tasks}
 use Rattle.budget.specs.Refusal as refusal
 use Rattle.record.specs.declared.layout.Pair.{Pair}
 use Rattle.record.specs.Layout.{size_of}
-use Rattle.record.specs.declared.layout.Record.TheVariants.{PairRecord}
+use Rattle.record.specs.Record.{PairRecord}
 use Rattle.sheet.specs.declared.pairs.Course.{Course}
 use Rattle.sheet.specs.declared.pairs.Ends.{Ends}
 use Rattle.sheet.specs.Judging.{most_bytes, most_components}

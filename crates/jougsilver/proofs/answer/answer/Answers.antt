@@ -3,7 +3,7 @@ use mathlib.Core.Path.{sym, ap, ◌∙◌}
 use lib.ListN.{length}
 use Rattle.jougsilver.specs.Answer.{reply_on, answer_refusal}
 use Rattle.jougsilver.proofs.AnswerLaws.{component_first, unwritten}
-use Rattle.record.specs.declared.write.Written.{Written}
+use Rattle.record.specs.Writing.{Written}
 use Rattle.record.specs.Writing.{written}
 use Rattle.jougsilver.proofs.answer.answer.Goals as goal
 

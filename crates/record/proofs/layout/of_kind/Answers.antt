@@ -2,42 +2,36 @@
 use Prim.Native.Nat.{ℕ}
 use mathlib.Core.Path.{◌≡◌, sym, ap, ◌∙◌}
 use mathlib.Core.List.{List}
-use native.Mathlib.Omega.{arith}
+use mathlib.Core.Bool.{false}
+use lib.Dec.{eqb}
 use borrow.Author.Tests.{le-ltb, lt-ltb, eq-eqb, ne_eqb}
 use Rattle.record.specs.Row.{row_length, values_at}
 use Rattle.record.specs.Layout.{row_of, record_with, of_kind}
-use Rattle.record.proofs.KindLaws.{narrow_row}
+use Rattle.record.specs.inner.Kinds.{kind_number}
+use Rattle.record.proofs.KindLaws.{listed}
 use Rattle.record.proofs.layout.of_kind.Goals as goal
-use Rattle.record.proofs.layout.of_kind.Goals.{After-row_length-length}
+use Rattle.record.proofs.layout.of_kind.Goals.{After-length-length}
 
 -- the length of the kind's row
-size : (c : After-row_length-length) → row_length (row_of c.args.kind) ≡ c.row_length-length.result
-size c = ap row_length (sym c.row_of-row.ensures) ∙ sym c.row_length-length.ensures
+size : (c : After-length-length) → row_length (row_of (kind_number c.args.kind)) ≡ c.length-length.result
+size c = ap row_length (sym c.row-row.ensures) ∙ sym c.length-length.ensures.length
 
-pub row_length-length-requires : goal.row_length-length-requires
-row_length-length-requires c = rw c.row_of-row.ensures (narrow_row c.args.kind)
-
-pub returns-then-length-eq0 : goal.returns-then-length-eq0
-unfolding of_kind
-returns-then-length-eq0 c = rw (size (goal.at.returns-then-length-eq0 c).After-row_length-length, eq-eqb _ _ c.if-length-eq0.true)
+-- which is not 0
+some : (c : After-length-length) → eqb c.length-length.result 0 ≡ false
+some c = ap (λ (n : ℕ). eqb n 0) (sym (size c)) ∙ listed c.args.kind
 
 pub returns-then-size-length : goal.returns-then-size-length
 unfolding of_kind
-returns-then-size-length c = rw (size (goal.at.returns-then-size-length c).After-row_length-length, ne_eqb _ _ c.if-length-eq0.false, ne_eqb _ _ c.if-size-length.true)
+returns-then-size-length c = let s = (goal.at.returns-then-size-length c).After-length-length in
+    rw (size s, some s, ne_eqb _ _ c.if-size-length.true)
 
 pub returns-then-rest-length : goal.returns-then-rest-length
 unfolding of_kind
-returns-then-rest-length c = rw (size (goal.at.returns-then-rest-length c).After-row_length-length, ne_eqb _ _ c.if-length-eq0.false, eq-eqb _ _ c.if-size-length.false, lt-ltb _ _ c.if-rest-length.true)
-
-pub values_at-values-requires : goal.values_at-values-requires
-values_at-values-requires c = let r = c.row_of-row.ensures in let n = c.row_length-length.ensures in
-    (rw r (narrow_row c.args.kind), omega arith)
-
-pub record_with-requires : goal.record_with-requires
-record_with-requires c = rw c.row_of-row.ensures at c.values_at-values.ensures.fit
+returns-then-rest-length c = let s = (goal.at.returns-then-rest-length c).After-length-length in
+    rw (size s, some s, eq-eqb _ _ c.if-size-length.false, lt-ltb _ _ c.if-rest-length.true)
 
 pub returns : goal.returns
 unfolding of_kind
-returns c = let a = c.args in
-    let e : c.values_at-values.result ≡ values_at (row_of a.kind) a.rest.now 0 = c.values_at-values.ensures.values ∙ ap (λ (l : List ℕ). values_at l a.rest.now 0) c.row_of-row.ensures in
-    rw (size (goal.at.returns c).After-row_length-length, ne_eqb _ _ c.if-length-eq0.false, eq-eqb _ _ c.if-size-length.false, le-ltb _ _ c.if-rest-length.false) (c.record_with.ensures ∙ ap (record_with a.kind) e)
+returns c = let a = c.args in let s = (goal.at.returns c).After-length-length in
+    let e : c.values_at.result ≡ values_at (row_of (kind_number a.kind)) a.rest.now 0 = c.values_at.ensures.values ∙ ap (λ (l : List ℕ). values_at l a.rest.now 0) c.row-row.ensures in
+    rw (size s, some s, eq-eqb _ _ c.if-size-length.false, le-ltb _ _ c.if-rest-length.false) (c.record_with.ensures ∙ ap (record_with (kind_number a.kind)) e)

@@ -4,47 +4,51 @@ use mathlib.Core.Path.{◌≡◌, refl, sym, ap, ◌∙◌}
 use lib.ListN.{length, length-drop}
 use native.Mathlib.Omega.{arith}
 use borrow.Author.Tests.{ne_eqb}
+use Rattle.std.proofs.lemmas.Result.{err_from_is_err_and}
+use Rattle.budget.proofs.Refusals.{some}
 use Rattle.record.specs.Row.{row_bytes}
 use Rattle.record.specs.Writing.{room_refusal, written, buffered}
 use Rattle.record.proofs.RowLaws.{row_length_lem}
-use Rattle.record.proofs.StoreLaws.{lent, room_given, stored_part}
+use Rattle.record.proofs.StoreLaws.{lent, room_given, room_free, stored_part}
 use Rattle.record.proofs.write.write_row.Goals as goal
-use Rattle.record.proofs.write.write_row.Goals.{After-check_room-refused}
+use Rattle.record.proofs.write.write_row.Goals.{After-length-size, In_ok-check_room}
 
--- the answer on the room is that on the bytes of the row
-asked : (c : After-check_room-refused) → c.check_room-refused.result ≡ room_refusal (length c.args.buffer.now) c.args.at (length (row_bytes c.args.row c.args.values))
-asked c = let a = c.args in
-    rw (row_length_lem a.row a.values, ← c.row_length-size.ensures) c.check_room-refused.ensures
+-- the row's length is that of its bytes
+size : (c : After-length-size) → length (row_bytes c.args.row.widths c.args.values) ≡ c.length-size.result
+size c = row_length_lem c.args.row.widths c.args.values ∙ sym c.length-size.ensures.length
 
-pub returns-then-refused-ne-NONE : goal.returns-then-refused-ne-NONE
+pub returns-in_err-check_room : goal.returns-in_err-check_room
 unfolding written buffered
-returns-then-refused-ne-NONE c = rw (← asked (goal.at.returns-then-refused-ne-NONE c).After-check_room-refused, ne_eqb _ _ c.if-refused-ne-NONE.true) (record { answer = refl; bytes = refl })
+returns-in_err-check_room c =
+    let p = err_from_is_err_and c.from_residual.result c.from_residual.ensures.1 in
+    rw (size (goal.at.returns-in_err-check_room c).After-length-size, ← c.in_err-check_room.ensures, ne_eqb _ _ (some c.in_err-check_room.field-0.0), p.1, p.2) (record { answer = refl; bytes = refl })
 
 -- a buffer that was not refused has room for the row
-free : (c : After-check_room-refused) → c.check_room-refused.result ≡ 0 → c.args.at + length (row_bytes c.args.row c.args.values) ≤ length c.args.buffer.now
-free c none = let a = c.args in room_given (length a.buffer.now) a.at (length (row_bytes a.row a.values)) (sym (asked c) ∙ none)
+free : (c : In_ok-check_room) → c.args.at + length (row_bytes c.args.row.widths c.args.values) ≤ length c.args.buffer.now
+free c = let a = c.args in let e = c.in_ok-check_room.ensures in
+    rw (row_length_lem a.row.widths a.values, ← c.length-size.ensures.length) (room_given (length a.buffer.now) a.at c.length-size.result (sym e))
 
-pub slice_bounds-put_row-count : goal.slice_bounds-put_row-count
-slice_bounds-put_row-count c = let h = free (goal.at.slice_bounds-put_row-count c).After-check_room-refused c.if-refused-ne-NONE.false in omega arith
+pub slice_bounds-put-count : goal.slice_bounds-put-count
+slice_bounds-put-count c = let h = free (goal.at.slice_bounds-put-count c).In_ok-check_room in omega arith
 
-pub slice_bounds-put_row-start : goal.slice_bounds-put_row-start
-slice_bounds-put_row-start c = let h = free (goal.at.slice_bounds-put_row-start c).After-check_room-refused c.if-refused-ne-NONE.false in omega arith
+pub slice_bounds-put-start : goal.slice_bounds-put-start
+slice_bounds-put-start c = let h = free (goal.at.slice_bounds-put-start c).In_ok-check_room in omega arith
 
-pub put_row-requires : goal.put_row-requires
-put_row-requires c = let a = c.args in let h = free (goal.at.put_row-requires c).After-check_room-refused c.if-refused-ne-NONE.false in
-    rw (lent a.buffer.now a.at, length-drop) (omega (arith, row_length_lem a.row a.values))
+pub put-requires : goal.put-requires
+put-requires c = let a = c.args in let h = free (goal.at.put-requires c).In_ok-check_room in
+    rw (lent a.buffer.now a.at, length-drop) (omega (arith, row_length_lem a.row.widths a.values))
 
 pub overflow_add-result : goal.overflow_add-result
-overflow_add-result c = let a = c.args in let h = free (goal.at.overflow_add-result c).After-check_room-refused c.if-refused-ne-NONE.false in
-    omega (arith, row_length_lem a.row a.values, c.row_length-size.ensures)
+overflow_add-result c = let a = c.args in let h = free (goal.at.overflow_add-result c).In_ok-check_room in
+    omega (arith, row_length_lem a.row.widths a.values, c.length-size.ensures.length)
 
 pub returns : goal.returns
 unfolding written buffered
-returns c = let a = c.args in
-    let z = sym (asked (goal.at.returns c).After-check_room-refused) ∙ c.if-refused-ne-NONE.false in
-    let n = c.row_length-size.ensures ∙ sym (row_length_lem a.row a.values) in
-    rw z
+returns c = let a = c.args in let bytes = row_bytes a.row.widths a.values in
+    let k = size (goal.at.returns c).After-length-size in
+    let h = free (goal.at.returns c).In_ok-check_room in
+    rw (room_free (length a.buffer.now) a.at (length bytes) h)
     (record {
-      answer = ap (λ (k : ℕ). record { refusal = 0; place = a.at + k }) n;
-      bytes = stored_part a.buffer.now a.at (row_bytes a.row a.values) c.put_row.new.part (free (goal.at.returns c).After-check_room-refused c.if-refused-ne-NONE.false) c.put_row.ensures;
+      answer = ap (λ (n : ℕ). record { refusal = 0; place = a.at + n }) (sym k);
+      bytes = stored_part a.buffer.now a.at bytes c.put.new.part h c.put.ensures;
     })
