@@ -11,9 +11,9 @@ use Rattle.budget.specs.declared.quantity.Time.{Time}
 use Rattle.budget.specs.declared.quantity.Units.{Units}
 use Rattle.budget.specs.Component.{interface_at, common_period_of, component_refusal}
 use Rattle.budget.specs.Task.{tasks_of}
-use Rattle.judge.specs.declared.answer.Judged.TheVariants.{Answered}
-use Rattle.judge.specs.declared.answer.Margined.{Margined}
-use Rattle.judge.specs.declared.answer.Margined.TheVariants as NoMargin
+use Rattle.judge.specs.numbers.Judged.{Answered}
+use Rattle.judge.specs.numbers.Margined.{Margined}
+use Rattle.judge.specs.numbers.Margined as NoMargin
 use Rattle.judge.specs.declared.answer.Verdict.TheVariants as Variant
 use Rattle.judge.specs.Answer.{answer_at}
 use Rattle.judge.specs.Capacity.{capacity_of}

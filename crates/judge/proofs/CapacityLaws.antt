@@ -3,9 +3,11 @@ use Prim.Native.Nat.{ℕ, suc, ◌+◌, ◌≤◌, ◌<◌, suc-le-suc}
 use mathlib.Core.Path.{◌≡◌, refl, sym, ◌∙◌, ap}
 use mathlib.Core.Bool.{Bool, true, false}
 use mathlib.Core.List.{List}
+use borrow.Author.Tests.{le-leb, lt-leb}
 use native.Mathlib.Decide.{dec_le}
-use native.Mathlib.Nat.{le_trans, lt_of_le_of_lt, not-le_of_lt, lt_of_not-le, not-suc-le-zero}
+use native.Mathlib.Nat.{le_of_suc-le-suc, le_trans, lt_of_le_of_lt, not-le_of_lt, lt_of_not-le, not-suc-le-zero}
 use native.Mathlib.Omega.{arith}
+use Rattle.std.specs.Prelude.{Some, None}
 use Rattle.budget.specs.declared.component.Component.{Component}
 use Rattle.budget.specs.declared.interface.Interface.{Interface}
 use Rattle.budget.specs.declared.task.Task.{Task}
@@ -18,7 +20,8 @@ use Rattle.budget.proofs.SupplyLaws.{supply_capacity}
 use Rattle.budget.proofs.Valid.{ValidInterface, valid_interface_lem, interface_valid}
 use Rattle.judge.specs.Capacity.{smallest_capacity, capacity_of}
 use Rattle.judge.specs.Verdict.{accepts}
-use Rattle.judge.specs.inner.Raise.{Raised}
+use Rattle.judge.specs.inner.Raise.{Enough}
+use Rattle.judge.specs.inner.Whole.{capacity_found}
 use Rattle.judge.proofs.SearchLaws.{smallest_only}
 use Rattle.judge.proofs.VerdictLaws.{FitsBefore, fits_start, fits_on, accepts_fits, fits_accepts}
 
@@ -94,33 +97,43 @@ module _ (ks : List Task) (p d n : ℕ) where
       })
 
   -- raised at `at`: every capacity passed over is short there
-  module _ (a : ℕ) (v : valid_interface (interface p a d) ≡ true) (at q r : ℕ) (f : Found ks p d n at q) (some : 1 ≤ at) (h : at ≤ n) (w : Raised p d q at (demand ks at) r) where
-    raised_short : (j : ℕ) → j < r → accepts ks (interface p j d) n ≡ false
-    raised_short j l = split (dec_le q j)
+  module _ (at q : ℕ) (f : Found ks p d n at q) (some : 1 ≤ at) (h : at ≤ n) where
+    raised_short : (r : ℕ) → ((j : ℕ) → q ≤ j → j < r → supply (interface p j d) at < demand ks at) → (j : ℕ) → j < r → accepts ks (interface p j d) n ≡ false
+    raised_short r short j l = split (dec_le q j)
       where
         split : Dec (q ≤ j) → accepts ks (interface p j d) n ≡ false
-        split (yes g) = short_accepts ks (interface p j d) n at some h (w.short j g l)
+        split (yes g) = short_accepts ks (interface p j d) n at some h (short j g l)
         split (no g) = f.short j (lt_of_not-le g)
 
-    pub found_none : d < r → smallest_capacity ks p d n ≡ r
+    pub found_none : ((j : ℕ) → q ≤ j → j ≤ d → supply (interface p j d) at < demand ks at) → smallest_capacity ks p d n ≡ suc d
     unfolding smallest_capacity
-    found_none g =
-        let e : r ≡ suc d = omega (arith, w.within) in
-        smallest_only _ (suc d) r (record { within = omega arith; before = raised_short; passes = λ l. absurd (omega (arith, l)) })
+    found_none short =
+        smallest_only _ (suc d) (suc d)
+        (record { within = omega arith; before = raised_short (suc d) (λ j g l. short j g (le_of_suc-le-suc l)); passes = λ l. absurd (omega (arith, l)) })
 
-    pub found_on : r ≤ d → (next : ℕ) → ((u : ℕ) → at ≤ u → u < next → demand ks u ≡ demand ks at) → Found ks p d n next r
-    found_on g next still =
+    pub found_on : (a : ℕ) (v : valid_interface (interface p a d) ≡ true) (r : ℕ) → Enough (interface p q d) at (demand ks at) r
+        → (next : ℕ) → ((u : ℕ) → at ≤ u → u < next → demand ks u ≡ demand ks at) → Found ks p d n next r
+    found_on a v r w next still =
         record {
-          within = g;
+          within = w.within;
           fits =
-              fits_on ks (interface p r d) (valid_capacity p d a v r g) at next
-              (λ u l m. le_trans (f.fits u l m) (supply_grows p d a v q r u w.up g))
-              (w.fits g)
+              fits_on ks (interface p r d) (valid_capacity p d a v r w.within) at next
+              (λ u l m. le_trans (f.fits u l m) (supply_grows p d a v q r u w.up w.within))
+              w.fits
               still;
-          short = raised_short;
+          short = raised_short r w.short;
         }
 
--- what a walk up to L finds is the component's smallest capacity
-pub capacity_is : (k : Component) (n q : ℕ) → n ≡ common_period_of k → q ≡ smallest_capacity (tasks_of k.table) k.period.0 k.deadline.0 n → capacity_of k ≡ q
-unfolding capacity_of
-capacity_is k n q whole found = sym (found ∙ ap (λ (m : ℕ). smallest_capacity (tasks_of k.table) k.period.0 k.deadline.0 m) whole)
+-- what a walk up to L finds is the component's smallest capacity, if there is one
+module _ (c : Component) (n : ℕ) (whole : n ≡ common_period_of c) (q : ℕ) (found : smallest_capacity (tasks_of c.table) c.period.0 c.deadline.0 n ≡ q) where
+  capacity_is : capacity_of c ≡ q
+  unfolding capacity_of
+  capacity_is = ap (λ (m : ℕ). smallest_capacity (tasks_of c.table) c.period.0 c.deadline.0 m) (sym whole) ∙ found
+
+  pub some_found : q ≤ c.deadline.0 → Some (record { 0 = q }) ≡ capacity_found c
+  unfolding capacity_found
+  some_found h = rw (capacity_is, le-leb q c.deadline.0 h)
+
+  pub none_found : c.deadline.0 < q → None ≡ capacity_found c
+  unfolding capacity_found
+  none_found h = rw (capacity_is, lt-leb q c.deadline.0 h)

@@ -1,58 +1,67 @@
 -- The tightest step instant: what trying one instant more does, that nothing changes between step instants, and that what is found is the tightest.
 use Prim.Native.Nat.{ℕ, zero, suc, ◌+◌, ◌*◌, ◌≤◌, ◌<◌}
-use mathlib.Core.Path.{◌≡◌, refl, sym, ◌∙◌, ap, ap₂, subst}
+use mathlib.Core.Path.{◌≡◌, refl, sym, ◌∙◌, ap, subst}
 use mathlib.Core.Logic.{◌⊎◌, inl, inr, ⊎_elim}
 use mathlib.Core.Bool.{Bool, true, false, cond}
 use mathlib.Core.List.{List}
 use lib.Dec.{ltb, eqb}
-use lib.ListN.{length, length-take}
-use borrow.Author.Tests.{le-ltb, ltb-true, ltb-false, eqb-true, eqb-false}
+use lib.ListN.{length}
+use borrow.Author.Tests.{le-ltb, ne_eqb, ltb-true, ltb-false, eqb-true, eqb-false}
 use native.Mathlib.Decide.{dec_le}
 use native.Mathlib.Nat.{not-suc-le-zero, le_of_eq, le_of_lt, le_of_suc-le-suc, le_trans, mul-le-mul, eq-or-lt_of_le, not-le_of_lt}
 use native.Mathlib.Omega.{arith}
+use Rattle.std.specs.Prelude.{Option, Some, None}
 use Rattle.budget.specs.declared.interface.Interface.{Interface}
-use Rattle.budget.specs.declared.task.Table.{Table}
 use Rattle.budget.specs.declared.task.Task.{Task}
 use Rattle.budget.specs.Demand.{demand}
 use Rattle.budget.specs.Limits.{limit, most_tasks}
 use Rattle.budget.specs.Supply.{supply}
-use Rattle.budget.specs.Task.{tasks_of, valid_tasks}
-use Rattle.budget.proofs.DemandLaws.{demand_zero, demand_bound}
-use Rattle.budget.proofs.SupplyLaws.{supply_zero, supply_le_time}
+use Rattle.budget.specs.Task.{valid_tasks}
+use Rattle.budget.proofs.DemandLaws.{demand_bound}
+use Rattle.budget.proofs.SupplyLaws.{supply_le_time}
 use Rattle.budget.proofs.Valid.{ValidInterface, valid_interface_lem}
 use Rattle.judge.specs.declared.margin.Tight.{Tight}
 use Rattle.judge.specs.Margin.{Step, Tightest, tight_at, tried, tight_instant}
-use Rattle.judge.specs.inner.Scan.{Scannable, Small}
+use Rattle.judge.specs.inner.Scan.{Scannable, SmallBest}
+use Rattle.judge.specs.inner.Tried.{tight_on, tight_tried, tighter_of}
+use Rattle.judge.proofs.StepLaws.{step_after}
 
 -- what the walk has shown before `at`: the tightest of all instants up to any from the last one passed on
-pub record Best (ks : List Task) (i : Interface) (n at : ℕ) (best : Tight) : Type 0 where
+pub record Best (ks : List Task) (i : Interface) (n at : ℕ) (best : Option Tight) : Type 0 where
   pub last : ℕ
   pub reached : last ≤ n
   pub passed : last < at
-  pub tight : (u : ℕ) → last ≤ u → u < at → best ≡ tight_at ks i (tight_instant ks i u)
+  pub tight : (u : ℕ) → last ≤ u → u < at → best ≡ tight_on ks i u
 
 -- one number more
 up_to : (p n : ℕ) → suc p ≤ suc n → (p ≡ n) ⊎ (suc p ≤ n)
 up_to p n l = eq-or-lt_of_le (le_of_suc-le-suc l)
 
 module _ (ks : List Task) (i : Interface) where
-  -- what is tried on a step instant with its supply and demand is such again
-  kept : (t m : ℕ) (a b c : Bool)
-      → cond a (cond b (tight_at ks i t) (cond c (tight_at ks i t) (tight_at ks i m))) (tight_at ks i m)
-      ≡ tight_at ks i (cond a (cond b (tight_at ks i t) (cond c (tight_at ks i t) (tight_at ks i m))) (tight_at ks i m)).at
-  unfolding tight_at
-  kept t m true true c = refl
-  kept t m true false true = refl
-  kept t m true false false = refl
-  kept t m false b c = refl
+  -- a step instant with its supply and demand, and the same where instant 0 stands for none
+  abbrev seen : ℕ → Tight
+  seen t = record { at = t; units = supply i t; demand = demand ks t }
 
-  tried_kept : (t m before : ℕ) → tried (tight_at ks i m) i t before (demand ks t) ≡ tight_at ks i (tried (tight_at ks i m) i t before (demand ks t)).at
-  unfolding tried tight_at
-  tried_kept t m before = kept t m (ltb before (demand ks t)) (eqb m 0) (ltb (supply i t + demand ks m) (supply i m + demand ks t))
+  abbrev seen_if : ℕ → Option Tight
+  seen_if t = cond (eqb t 0) None (Some (seen t))
 
-  pub tight_more : (p : ℕ) → tried (tight_at ks i (tight_instant ks i p)) i (suc p) (demand ks p) (demand ks (suc p)) ≡ tight_at ks i (tight_instant ks i (suc p))
-  unfolding tight_instant
-  tight_more p = tried_kept (suc p) (tight_instant ks i p) (demand ks p)
+  -- trying one instant more finds the tightest step instant up to it
+  more : (p m : ℕ) (a b c : Bool) → eqb m 0 ≡ b → ltb (supply i (suc p) + demand ks m) (supply i m + demand ks (suc p)) ≡ c
+      → cond a (Some (tighter_of (cond b None (Some (seen m))) (seen (suc p)))) (cond b None (Some (seen m)))
+      ≡ seen_if (cond a (cond b (tight_at ks i (suc p)) (cond c (tight_at ks i (suc p)) (tight_at ks i m))) (tight_at ks i m)).at
+  unfolding tighter_of tight_at
+  more p m false b c f g = rw f
+  more p m true true c f g = rw (ne_eqb (suc p) 0 (λ e. absurd (omega arith)))
+  more p m true false true f g = rw (g, ne_eqb (suc p) 0 (λ e. absurd (omega arith)))
+  more p m true false false f g = rw (g, f)
+
+  tight_more : (p : ℕ) → tight_tried (tight_on ks i p) i (step_after ks p) ≡ tight_on ks i (suc p)
+  unfolding tight_tried tight_on tight_instant tried tight_at
+  tight_more p =
+      more p (tight_instant ks i p) (ltb (demand ks p) (demand ks (suc p))) (eqb (tight_instant ks i p) 0)
+      (ltb (supply i (suc p) + demand ks (tight_instant ks i p)) (supply i (tight_instant ks i p) + demand ks (suc p)))
+      refl
+      refl
 
   -- an instant at which demand stands still changes nothing
   not_step : (m t before asked : ℕ) → asked ≤ before → (tried (tight_at ks i m) i t before asked).at ≡ m
@@ -75,43 +84,39 @@ module _ (ks : List Task) (i : Interface) where
           let e : suc u ≡ at = omega arith in
           ap (λ (n : ℕ). tight_instant ks i n) e
 
-  none : valid_tasks ks ≡ true → ValidInterface i → record { at = 0; units = 0; demand = 0 } ≡ tight_at ks i (tight_instant ks i 0)
-  unfolding tight_at tight_instant
-  none v w = rw (supply_zero i w, demand_zero ks v)
+  none : None ≡ tight_on ks i 0
+  unfolding tight_on tight_instant
+  none = refl
 
-  pub best_start : valid_tasks ks ≡ true → ValidInterface i → (n : ℕ) → Best ks i n 1 (record { at = 0; units = 0; demand = 0 })
-  best_start v w n =
+  pub best_start : (n : ℕ) → Best ks i n 1 None
+  best_start n =
       record {
         last = 0;
         reached = omega arith;
         passed = omega arith;
         tight = λ u l h.
             let e : u ≡ 0 = omega arith in
-            subst (λ (m : ℕ). record { at = 0; units = 0; demand = 0 } ≡ tight_at ks i (tight_instant ks i m)) (sym e) (none v w);
+            none ∙ ap (λ (m : ℕ). tight_on ks i m) (sym e);
       }
 
-  pub best_on : (n p next : ℕ) (best r : Tight) → suc p ≤ n → suc p < next → Best ks i n (suc p) best → ((u : ℕ) → suc p ≤ u → u < next → demand ks u ≡ demand ks (suc p))
-      → r ≡ tried best i (suc p) (demand ks p) (demand ks (suc p)) → Best ks i n next r
-  best_on n p next best r h later b still e =
+  tight_on_still : (at u : ℕ) → tight_instant ks i u ≡ tight_instant ks i at → tight_on ks i u ≡ tight_on ks i at
+  unfolding tight_on
+  tight_on_still at u e = ap (λ (t : ℕ). seen_if t) e
+
+  -- one instant tried by a walk
+  pub best_next : (n p next : ℕ) (best r : Option Tight) → suc p ≤ n → suc p < next → Best ks i n (suc p) best
+      → ((u : ℕ) → suc p ≤ u → u < next → demand ks u ≡ demand ks (suc p)) → r ≡ tight_tried best i (step_after ks p) → Best ks i n next r
+  best_next n p next best r h later b still e =
       record {
         last = suc p;
         reached = h;
         passed = later;
         tight = λ u l g.
             e
-            ∙ ap (λ (x : Tight). tried x i (suc p) (demand ks p) (demand ks (suc p))) (b.tight p (omega (arith, b.passed)) (omega arith))
+            ∙ ap (λ (x : Option Tight). tight_tried x i (step_after ks p)) (b.tight p (omega (arith, b.passed)) (omega arith))
             ∙ tight_more p
-            ∙ ap (λ (m : ℕ). tight_at ks i m) (sym (tight_until (suc p) next still u l g));
+            ∙ sym (tight_on_still (suc p) u (tight_until (suc p) next still u l g));
       }
-
-  -- one instant tried by a walk: `before` and `asked` are the demand at p and at the instant after it
-  pub best_next : (n p at next before asked : ℕ) (best r : Tight) → at ≡ suc p → before ≡ demand ks p → asked ≡ demand ks at → at ≤ n → at < next → Best ks i n at best
-      → ((u : ℕ) → at ≤ u → u < next → demand ks u ≡ demand ks at) → r ≡ tried best i at before asked → Best ks i n next r
-  best_next n p at next before asked best r is was now =
-      subst
-      (λ (a : ℕ). a ≤ n → a < next → Best ks i n a best → ((u : ℕ) → a ≤ u → u < next → demand ks u ≡ demand ks a) → r ≡ tried best i a before asked → Best ks i n next r)
-      (sym is)
-      (λ h later b still e. best_on n p next best r h later b still (e ∙ ap₂ (λ (x y : ℕ). tried best i (suc p) x y) was (now ∙ ap (λ (a : ℕ). demand ks a) is)))
 
   -- what is known of the instants up to n: there is no step instant, or t is the tightest
   abbrev pub Known : ℕ → ℕ → Type 0
@@ -181,20 +186,18 @@ module _ (ks : List Task) (i : Interface) where
   pub demand_small : valid_tasks ks ≡ true → length ks ≤ most_tasks → (t : ℕ) → t ≤ limit → demand ks t ≤ most_tasks * (2 * limit)
   demand_small v few t h = le_trans (demand_bound ks v t) (mul-le-mul {m₂ = 2 * limit} few (omega arith))
 
-  small_at : valid_tasks ks ≡ true → ValidInterface i → length ks ≤ most_tasks → (t : ℕ) → t ≤ limit → Small (tight_at ks i t)
-  unfolding tight_at
-  small_at v w few t h = record { units = le_trans (supply_le_time i w t) h; demand = demand_small v few t h }
+  small_at : valid_tasks ks ≡ true → ValidInterface i → length ks ≤ most_tasks → (t : ℕ) → t ≤ limit → (b : Bool) → SmallBest (cond b None (Some (seen t)))
+  small_at v w few t h true = tt
+  small_at v w few t h false = record { units = le_trans (supply_le_time i w t) h; demand = demand_small v few t h }
 
-  pub best_small : valid_tasks ks ≡ true → ValidInterface i → length ks ≤ most_tasks → (n at : ℕ) (best : Tight) → n ≤ limit → Best ks i n at best → Small best
+  tight_on_small : valid_tasks ks ≡ true → ValidInterface i → length ks ≤ most_tasks → (n : ℕ) → n ≤ limit → SmallBest (tight_on ks i n)
+  unfolding tight_on
+  tight_on_small v w few n h = small_at v w few (tight_instant ks i n) (le_trans (tight_within n) h) _
+
+  pub best_small : valid_tasks ks ≡ true → ValidInterface i → length ks ≤ most_tasks → (n at : ℕ) (best : Option Tight) → n ≤ limit → Best ks i n at best → SmallBest best
   best_small v w few n at best h b =
-      subst Small (sym (b.tight b.last (omega arith) b.passed))
-      (small_at v w few (tight_instant ks i b.last) (omega (arith, tight_within b.last, b.reached)))
+      subst SmallBest (sym (b.tight b.last (omega arith) b.passed)) (tight_on_small v w few b.last (omega (arith, b.reached)))
 
--- and so are those of the tightest instant of a table's tasks
-pub tight_small : (table : Table) (i : Interface) (n : ℕ) (best : Tight) → Scannable table i n → best ≡ tight_at (tasks_of table) i (tight_instant (tasks_of table) i n)
-    → Small best
-unfolding tasks_of
-tight_small table i n best s is =
-    let ks = tasks_of table in
-    let few : length ks ≤ most_tasks = omega (arith, length-take table.count table.tasks, s.few) in
-    subst Small (sym is) (small_at ks i s.tasks (valid_interface_lem i s.interface) few (tight_instant ks i n) (le_trans (tight_within ks i n) s.bounded))
+-- and so are those of the tightest instant of a scan
+pub tight_small : (ks : List Task) (i : Interface) (n : ℕ) (best : Option Tight) → Scannable ks i n → best ≡ tight_on ks i n → SmallBest best
+tight_small ks i n best s is = subst SmallBest (sym is) (tight_on_small ks i s.tasks (valid_interface_lem i s.interface) s.few n s.bounded)

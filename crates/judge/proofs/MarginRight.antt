@@ -22,8 +22,8 @@ use Rattle.budget.proofs.CommonPeriodLaws.{common_positive, common_divides_at}
 use Rattle.budget.proofs.DemandLaws.{demand_zero, demand_shift, jobs_fixed, jobs_mono}
 use Rattle.budget.proofs.SupplyLaws.{supply_mono, supply_add}
 use Rattle.budget.proofs.Valid.{ValidInterface, span_fits, span_within, valid_head}
-use Rattle.judge.specs.declared.answer.Margined.{Margined}
-use Rattle.judge.specs.declared.answer.Margined.TheVariants as Variant
+use Rattle.judge.specs.numbers.Margined.{Margined}
+use Rattle.judge.specs.numbers.Margined as Variant
 use Rattle.judge.specs.Margin.{Step, Tightest, tight_instant, margin_at, margin_on, margin_of}
 use Rattle.judge.specs.Signed.{is_negative}
 use Rattle.judge.specs.Verdict.{Accepted, ShortAt, accepts}

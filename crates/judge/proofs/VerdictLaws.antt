@@ -1,7 +1,6 @@
 -- The first short instant: what a scan has shown of the instants passed, what it has found in the end, and why the instants up to L decide.
-use Prim.Native.Nat.{ℕ, zero, suc, min, ◌+◌, ◌≤◌, ◌<◌, suc-le-suc}
-use mathlib.Core.Path.{◌≡◌, refl, sym, ◌∙◌, ap, subst}
-use mathlib.Core.Logic.{◌⊎◌, inl, inr}
+use Prim.Native.Nat.{ℕ, zero, suc, ◌≤◌, ◌<◌, suc-le-suc}
+use mathlib.Core.Path.{◌≡◌, refl, sym, ap, subst}
 use mathlib.Core.Bool.{Bool, true, false, cond}
 use mathlib.Core.List.{List}
 use lib.Dec.{ltb}
@@ -9,7 +8,10 @@ use borrow.Author.Tests.{lt-ltb, le-ltb, ltb-true, ltb-false}
 use native.Mathlib.Decide.{dec_le}
 use native.Mathlib.Nat.{le_trans, le_of_eq, le_antisymm, not-le_of_lt, lt_of_not-le, le_of_suc-le-suc}
 use native.Mathlib.Omega.{arith}
+use Rattle.std.specs.Prelude.{Option, Some, None}
+use Rattle.std.specs.Option.{option_or}
 use Rattle.budget.specs.declared.interface.Interface.{Interface}
+use Rattle.budget.specs.declared.quantity.Time.{Time}
 use Rattle.budget.specs.declared.task.Task.{Task}
 use Rattle.budget.specs.CommonPeriod.{common_period}
 use Rattle.budget.specs.Demand.{demand}
@@ -23,9 +25,10 @@ use Rattle.budget.proofs.Valid.{ValidInterface}
 use Rattle.judge.specs.declared.answer.Verdict.{Verdict}
 use Rattle.judge.specs.declared.answer.Verdict.TheVariants as Variant
 use Rattle.judge.specs.Verdict.{Accepted, ShortAt, Judgement, is_short, first_short, accepts, verdict_on}
-use Rattle.judge.specs.inner.Tried.{short_tried, sooner_short}
+use Rattle.judge.specs.inner.Tried.{short_on, short_tried, sooner_short}
 use Rattle.judge.proofs.Instants.{enough}
 use Rattle.judge.proofs.SearchLaws.{smallest_is, smallest_only}
+use Rattle.judge.proofs.StepLaws.{step_after}
 
 -- every instant from 1 and before n fits
 abbrev pub FitsBefore : List Task → Interface → ℕ → Type 0
@@ -61,15 +64,14 @@ module _ (ks : List Task) (i : Interface) where
       (record { within = omega arith; before = λ j l. le-ltb _ _ (before (suc j) (omega arith) (omega arith)); passes = λ l. lt-ltb _ _ short }))
 
   -- what a scan up to n has shown before `at`: every instant fits, or the first short one is found
-  abbrev pub Sought : ℕ → ℕ → ℕ → Type 0
-  Sought n at short = ((short ≡ suc n) × FitsBefore ks i at) ⊎ ((short < at) × (first_short ks i n ≡ short))
+  abbrev pub Sought : ℕ → ℕ → Option Time → Type 0
+  Sought n at None = FitsBefore ks i at
+  Sought n at (Some t) = (t.0 ≤ n) × (first_short ks i n ≡ t.0)
 
-  pub sought_start : (n : ℕ) → Sought n 1 (n + 1)
-  sought_start n = inl (omega arith, fits_start)
-
-  pub sought_end : (n at short : ℕ) → n < at → Sought n at short → short ≡ first_short ks i n
-  sought_end n at short h (inl w) = w.0 ∙ sym (first_short_none n at w.1 h)
-  sought_end n at short h (inr w) = sym w.1
+  pub sought_end : (n at : ℕ) (short : Option Time) → n < at → Sought n at short → short ≡ short_on ks i n
+  unfolding short_on accepts
+  sought_end n at None h fits = rw (first_short_none n at fits h, lt-ltb n (suc n) (omega arith)) refl
+  sought_end n at (Some t) h s = rw (s.1, le-ltb n t.0 s.0) refl
 
   module _ (v : valid_tasks ks ≡ true) (w : ValidInterface i) where
     -- an instant at which demand stands still fits as the one before it does
@@ -77,35 +79,23 @@ module _ (ks : List Task) (i : Interface) where
     fits_still zero before h = omega (arith, demand_zero ks v)
     fits_still (suc p) before h = omega (arith, before (suc p) (omega arith) (omega arith), supply_mono i w (suc p) (suc (suc p)) (omega arith))
 
-    -- one instant more; `before` and `asked` are the demand at p and at the instant after it
-    module _ (n p next before asked short : ℕ) (was : before ≡ demand ks p) (now : asked ≡ demand ks (suc p)) (h : suc p ≤ n) (later : suc p < next)
-        (still : (u : ℕ) → suc p ≤ u → u < next → demand ks u ≡ demand ks (suc p)) where
-      fits_next : (short ≡ suc n) × FitsBefore ks i (suc p) → asked ≤ supply i (suc p) → Sought n next short
-      fits_next s f = inl (s.0, fits_on w (suc p) next s.1 (le_trans (le_of_eq (sym now)) f) still)
+    -- one instant more
+    module _ (n p next : ℕ) (h : suc p ≤ n) (still : (u : ℕ) → suc p ≤ u → u < next → demand ks u ≡ demand ks (suc p)) where
+      sought_on : (a b : Bool) → ltb (demand ks p) (demand ks (suc p)) ≡ a → ltb (supply i (suc p)) (demand ks (suc p)) ≡ b
+          → (short : Option Time) → Sought n (suc p) short
+          → Sought n next (cond a (cond b (option_or short (Some (record { 0 = suc p }))) short) short)
+      sought_on false b e f None fits = fits_on w (suc p) next fits (fits_still p fits (ltb-false _ _ e)) still
+      sought_on true false e f None fits = fits_on w (suc p) next fits (ltb-false _ _ f) still
+      sought_on true true e f None fits = (h, first_short_here n (suc p) (omega arith) h fits (ltb-true _ _ f))
+      sought_on false b e f (Some t) s = s
+      sought_on true false e f (Some t) s = s
+      sought_on true true e f (Some t) s = s
 
-      sought_on : (a b : Bool) → ltb before asked ≡ a → ltb (supply i (suc p)) asked ≡ b → Sought n (suc p) short → Sought n next (cond a (cond b (min short (suc p)) short) short)
-      sought_on false b e f (inl s) = fits_next s (omega (arith, was, now, fits_still p s.1 (omega (arith, was, now, ltb-false before asked e))))
-      sought_on true false e f (inl s) = fits_next s (ltb-false (supply i (suc p)) asked f)
-      sought_on true true e f (inl s) =
-          let here : min short (suc p) ≡ suc p = omega (arith, s.0) in
-          inr (omega arith, first_short_here n (suc p) (omega arith) h s.1 (omega (arith, now, ltb-true (supply i (suc p)) asked f)) ∙ sym here)
-      sought_on false b e f (inr s) = inr (omega (arith, s.0), s.1)
-      sought_on true false e f (inr s) = inr (omega (arith, s.0), s.1)
-      sought_on true true e f (inr s) =
-          let kept : min short (suc p) ≡ short = omega (arith, s.0) in
-          inr (omega (arith, s.0), s.1 ∙ sym kept)
-
-    pub sought_next : (n p at next before asked short r : ℕ) → at ≡ suc p → before ≡ demand ks p → asked ≡ demand ks at → at ≤ n → at < next
-        → ((u : ℕ) → at ≤ u → u < next → demand ks u ≡ demand ks at) → r ≡ short_tried short i at before asked → Sought n at short → Sought n next r
-    unfolding short_tried sooner_short
-    sought_next n p at next before asked short r is was now h later still e s =
-        subst (λ (x : ℕ). Sought n next x) (sym e)
-        (subst
-        (λ (a : ℕ). asked ≡ demand ks a → a ≤ n → a < next → ((u : ℕ) → a ≤ u → u < next → demand ks u ≡ demand ks a) → Sought n a short
-        → Sought n next (cond (ltb before asked) (cond (ltb (supply i a) asked) (min short a) short) short))
-        (sym is)
-        (λ now' h' later' still' s'. sought_on n p next before asked short was now' h' later' still' (ltb before asked) (ltb (supply i (suc p)) asked) refl refl s')
-        now h later still s)
+      pub sought_next : (short r : Option Time) → r ≡ short_tried short i (step_after ks p) → Sought n (suc p) short → Sought n next r
+      unfolding short_tried sooner_short
+      sought_next short r e s =
+          subst (λ (x : Option Time). Sought n next x) (sym e)
+          (sought_on (ltb (demand ks p) (demand ks (suc p))) (ltb (supply i (suc p)) (demand ks (suc p))) refl refl short s)
 
   -- the first short instant up to n, if there is one, is short and the first
   first_short_within : (n : ℕ) → 1 ≤ first_short ks i n

@@ -1,13 +1,15 @@
 -- The smallest capacity that is accepted, looked for from 0 up to Δ (RULES 7).
-use Rattle.std.specs.Prelude.{ℕ, suc, cond, List, leb, eqb}
+use Rattle.std.specs.Prelude.{ℕ, suc, cond, List, Option, Some, None, Result, Ok, Err, leb, eqb}
 use Rattle.budget.specs.declared.component.Component.{Component}
+use Rattle.budget.specs.declared.quantity.Units.{Units}
+use Rattle.budget.specs.declared.refusal.Refusal.{Refusal}
 use Rattle.budget.specs.declared.task.Task.{Task}
 use Rattle.budget.specs.Component.{common_period_of, component_refusal}
 use Rattle.budget.specs.Interface.{interface}
 use Rattle.budget.specs.Refusal as refusal
 use Rattle.budget.specs.Task.{tasks_of}
-use Rattle.judge.specs.declared.answer.Smallest.{Smallest}
-use Rattle.judge.specs.declared.answer.Smallest.TheVariants as Variant
+use Rattle.judge.specs.numbers.Smallest.{Smallest}
+use Rattle.judge.specs.numbers.Smallest as Variant
 use Rattle.judge.specs.Search.{smallest}
 use Rattle.judge.specs.Verdict.{accepts}
 
@@ -25,3 +27,9 @@ capacity_answer c =
     cond (eqb (component_refusal c) refusal.none)
     (cond (leb (capacity_of c) c.deadline.0) (Variant.Found (record { 0 = capacity_of c })) Variant.None)
     (Variant.Refused (component_refusal c))
+
+-- an answer in these numbers
+abbrev pub smallest_in : Result (Option Units) Refusal → Smallest
+smallest_in (Ok (Some u)) = Variant.Found u
+smallest_in (Ok None) = Variant.None
+smallest_in (Err r) = Variant.Refused (refusal.number_of r)

@@ -6,8 +6,8 @@ use Rattle.budget.specs.declared.component.Component.{Component}
 use Rattle.budget.specs.Component.{interface_at, common_period_of, component_refusal}
 use Rattle.budget.specs.Refusal as refusal
 use Rattle.budget.specs.Task.{tasks_of}
-use Rattle.judge.specs.declared.answer.Judged.{Judged}
-use Rattle.judge.specs.declared.answer.Judged.TheVariants.{Refused, Answered}
+use Rattle.judge.specs.numbers.Judged.{Judged}
+use Rattle.judge.specs.numbers.Judged.{Refused, Answered}
 use Rattle.judge.specs.declared.answer.Verdict.{Verdict}
 use Rattle.judge.specs.declared.answer.Verdict.TheVariants as Variant
 use Rattle.judge.specs.Capacity.{capacity_of}

@@ -6,3 +6,4 @@ pub mod Search
 pub mod Signed
 pub mod Verdict
 pub mod inner
+pub mod numbers

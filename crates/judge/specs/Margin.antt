@@ -1,5 +1,5 @@
 -- The margin: what supply has over demand at the step instant, of those up to L, where that is least, and the first such instant (RULES 8).
-use Rattle.std.specs.Prelude.{ℕ, zero, suc, ◌+◌, ◌≤◌, ◌<◌, cond, List, ◌≡◌, leb, ltb, eqb, ℤ, pos}
+use Rattle.std.specs.Prelude.{ℕ, zero, suc, ◌+◌, ◌≤◌, ◌<◌, cond, List, ◌≡◌, leb, ltb, eqb, Option, Some, None, ℤ, pos}
 use Rattle.std.proofs.Math.IntN.{sub_ℕ}
 use Rattle.budget.specs.declared.component.Capacity.{Capacity}
 use Rattle.budget.specs.declared.component.Capacity.TheVariants.{Stated, Asked}
@@ -11,9 +11,10 @@ use Rattle.budget.specs.Demand.{demand}
 use Rattle.budget.specs.Refusal as refusal
 use Rattle.budget.specs.Supply.{supply}
 use Rattle.budget.specs.Task.{tasks_of}
-use Rattle.judge.specs.declared.answer.Margined.{Margined}
-use Rattle.judge.specs.declared.answer.Margined.TheVariants as Variant
-use Rattle.judge.specs.declared.margin.Tight.{Tight}
+use Rattle.judge.specs.declared.answer.Margin.{Margin}
+use Rattle.judge.specs.numbers.Margined.{Margined}
+use Rattle.judge.specs.numbers.Margined as Variant
+use Rattle.judge.specs.numbers.Tight.{Tight}
 use Rattle.judge.specs.Capacity.{capacity_of}
 
 -- p + 1 is a step instant: demand there exceeds demand at p
@@ -79,3 +80,8 @@ abbrev pub margin_instant_of : Margined → ℕ
 margin_instant_of (Variant.Refused n) = 0
 margin_instant_of (Variant.Least m t) = t.0
 margin_instant_of Variant.None = 0
+
+-- a margin as the answer's part, or none
+abbrev pub margin_in : Option Margin → Margined
+margin_in None = Variant.None
+margin_in (Some m) = Variant.Least m.units m.at

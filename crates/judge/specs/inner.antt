@@ -4,3 +4,4 @@ pub mod Raise
 pub mod Scan
 pub mod Steps
 pub mod Tried
+pub mod Whole

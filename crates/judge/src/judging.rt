@@ -1,82 +1,63 @@
 // Judging a component (RULES 7, 8): its verdict and its margin, read from a single scan.
-ghost use Rattle.std.specs.Prelude.{◌≡◌};
-ghost use Rattle.budget.specs.Component.{interface_at, common_period_answer, common_period_of};
-ghost use Rattle.judge.specs.Answer.{answer_at, judge_answer};
-ghost use Rattle.judge.specs.inner.Scan.{Scannable};
+ghost use Rattle.std.specs.Prelude.{◌≡◌, ◌≤◌};
+ghost use Rattle.judge.specs.Answer.{answer_at, answer_in, judge_answer, judgement_in};
+ghost use Rattle.judge.specs.inner.Whole.{Whole};
 
-use crate::answer::{Answer, Judged, Margined, Verdict};
+use crate::answer::{Judgement, Verdict};
 use crate::capacity::least_capacity;
 use crate::margin::margin_from;
 use crate::scan::scan;
 use crate::verdict::verdict_from;
-use budget::common_period::{CommonPeriod, common_period};
-use budget::component::{Capacity, Component};
-use budget::interface::Interface;
-use budget::quantity::Units;
-use budget::refusal;
+use budget::common_period::common_period;
+use budget::component::{Capacity, Component, interface_at};
+use budget::quantity::{Time, Units};
+use budget::refusal::Refusal;
 
 // The answer at a capacity: one scan up to L.
-fn at_capacity(component: Component, units: Units, length: u32) -> Answer
-    requires whole { length ≡ common_period_of component }
-    requires scannable { Scannable component.table (interface_at component units.0) length }
-    ensures { result ≡ answer_at component (Capacity.Stated units) }
+fn at_capacity(component: Component, capacity: Units, length: Time) -> Judgement
+    requires whole { Whole component length.0 }
+    requires fits { capacity.0 ≤ component.deadline.0 }
+    ensures { judgement_in result ≡ answer_at component (Capacity.Stated capacity) }
 {
-    let table = component.table;
-    let period = component.period;
-    let deadline = component.deadline;
-    let interface = Interface {
-        period,
-        capacity: units,
-        deadline,
-    };
-    let found = scan(table, interface, length);
-    let verdict = Judged::Answered(units, verdict_from(found.short, length));
-    let margin = margin_from(found.tight);
-    Answer { verdict, margin }
+    let interface = interface_at(component, capacity);
+    let found = scan(component.table.tasks(), interface, length);
+    Judgement {
+        capacity,
+        verdict: verdict_from(found.short),
+        margin: margin_from(found.tight),
+    }
 }
 
 // The answer for an asked capacity: that at the smallest one which is accepted, or none.
-fn at_smallest(component: Component, length: u32) -> Answer
-    requires whole { length ≡ common_period_of component }
-    requires scannable { Scannable component.table (interface_at component 0) length }
-    ensures { result ≡ answer_at component Capacity.Asked }
+fn at_smallest(component: Component, length: Time) -> Judgement
+    requires { Whole component length.0 }
+    ensures { judgement_in result ≡ answer_at component Capacity.Asked }
 {
-    let table = component.table;
-    let deadline = component.deadline;
-    let found = least_capacity(table, component.period, deadline, length);
-    let last = deadline.0;
-    if last < found {
-        return Answer {
-            verdict: Judged::Answered(Units(0), Verdict::None),
-            margin: Margined::None,
-        };
+    match least_capacity(component, length) {
+        Some(capacity) => at_capacity(component, capacity, length),
+        None => Judgement {
+            capacity: Units(0),
+            verdict: Verdict::None,
+            margin: None,
+        },
     }
-    at_capacity(component, Units(found), length)
 }
 
-// The answer on a component whose common period was asked for.
-pub(crate) fn judge_over(component: Component, whole: CommonPeriod) -> Answer
-    requires { whole ≡ common_period_answer component }
-    ensures { result ≡ judge_answer component }
+// The answer on a component whose common period is known.
+pub(crate) fn judge_over(component: Component, length: Time) -> Judgement
+    requires { Whole component length.0 }
+    ensures { judgement_in result ≡ judge_answer component }
 {
-    let refused = whole.refusal;
-    if refused != refusal::NONE {
-        return Answer {
-            verdict: Judged::Refused(refused),
-            margin: Margined::Refused(refused),
-        };
-    }
-    let length = whole.length.0;
-    let capacity = component.capacity;
-    match capacity {
+    match component.capacity {
         Capacity::Stated(units) => at_capacity(component, units, length),
         Capacity::Asked => at_smallest(component, length),
     }
 }
 
 // Verdict and margin of a component, at its capacity stated or found.
-pub fn judge(component: Component) -> Answer
-    ensures { result ≡ judge_answer component }
+pub fn judge(component: Component) -> Result<Judgement, Refusal>
+    ensures { answer_in result ≡ judge_answer component }
 {
-    judge_over(component, common_period(component))
+    let length = common_period(component)?;
+    Ok(judge_over(component, length))
 }

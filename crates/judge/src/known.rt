@@ -2,25 +2,29 @@
 // and not worked out.
 ghost use Rattle.std.specs.Prelude.{◌≡◌};
 ghost use Rattle.budget.specs.Component.{Right};
-ghost use Rattle.judge.specs.Answer.{judge_answer};
-ghost use Rattle.judge.specs.Capacity.{capacity_answer};
+ghost use Rattle.judge.specs.Answer.{answer_in, judge_answer};
+ghost use Rattle.judge.specs.Capacity.{capacity_answer, smallest_in};
 
-use crate::answer::{Answer, Smallest};
-use crate::capacity::capacity_over;
+use crate::answer::Judgement;
+use crate::capacity::least_capacity;
 use crate::judging::judge_over;
 use budget::component::Component;
 use budget::known::common_period;
+use budget::quantity::Units;
+use budget::refusal::Refusal;
 
-pub fn judge(component: Component) -> Answer
+pub fn judge(component: Component) -> Result<Judgement, Refusal>
     requires { Right component }
-    ensures { result ≡ judge_answer component }
+    ensures { answer_in result ≡ judge_answer component }
 {
-    judge_over(component, common_period(component))
+    let length = common_period(component)?;
+    Ok(judge_over(component, length))
 }
 
-pub fn smallest_capacity(component: Component) -> Smallest
+pub fn smallest_capacity(component: Component) -> Result<Option<Units>, Refusal>
     requires { Right component }
-    ensures { result ≡ capacity_answer component }
+    ensures { smallest_in result ≡ capacity_answer component }
 {
-    capacity_over(component, common_period(component))
+    let length = common_period(component)?;
+    Ok(least_capacity(component, length))
 }

@@ -9,4 +9,5 @@ mod margin;
 mod scan;
 pub mod signed;
 mod steps;
+mod supplied;
 mod verdict;

@@ -2,13 +2,13 @@
 ghost use Rattle.std.specs.Prelude.{◌≡◌, ◌*◌, ◌≤◌};
 ghost use Rattle.std.proofs.Math.IntN.{sub_ℕ};
 ghost use Rattle.budget.specs.Limits.{limit};
-ghost use Rattle.judge.specs.inner.Scan.{Small};
+ghost use Rattle.judge.specs.inner.Scan.{Small, SmallBest};
 ghost use Rattle.judge.specs.inner.Tried.{margin_from, tighter_of};
 
-use crate::answer::Margined;
+use crate::answer::Margin;
 use budget::quantity::Time;
 
-// A step instant with supply and demand there; instant 0 stands for none.
+// A step instant with supply and demand there.
 #[derive(Clone, Copy)]
 pub struct Tight {
     pub at: u32,
@@ -17,14 +17,15 @@ pub struct Tight {
 }
 
 // The tighter of the tightest step instant so far and a later one; the first of equals stays.
-pub(crate) fn tighter(best: Tight, here: Tight) -> Tight
-    requires best_small { Small best }
+#[tactic(auto, unfolding(crate::specs::inner::Tried::tighter_of))]
+pub(crate) fn tighter(best: Option<Tight>, here: Tight) -> Tight
+    requires best_small { SmallBest best }
     requires here_small { Small here }
     ensures { result ≡ tighter_of best here }
 {
-    if best.at == 0 {
+    let Some(best) = best else {
         return here;
-    }
+    };
     if here.units + best.demand < best.units + here.demand {
         return here;
     }
@@ -40,15 +41,15 @@ fn difference(units: u32, demand: u32) -> i32
     units as i32 - demand as i32
 }
 
-// The margin where the tightest step instant is known, or none where there is no step instant.
+// The margin where the tightest step instant is known.
 #[tactic(auto, unfolding(crate::specs::inner::Tried::margin_from))]
-pub(crate) fn margin_from(best: Tight) -> Margined
-    requires { Small best }
+pub(crate) fn margin_from(best: Option<Tight>) -> Option<Margin>
+    requires { SmallBest best }
     ensures { result ≡ margin_from best }
 {
-    let at = best.at;
-    if at == 0 {
-        return Margined::None;
-    }
-    Margined::Least(difference(best.units, best.demand), Time(at))
+    let best = best?;
+    Some(Margin {
+        units: difference(best.units, best.demand),
+        at: Time(best.at),
+    })
 }

@@ -8,22 +8,16 @@ pub fn is_negative(margin: i32) -> bool
     margin < 0
 }
 
-// The margin without its sign. The complement of −(n + 1) is n, at every width.
+// The margin without its sign.
 pub fn magnitude(margin: i32) -> u32
     ensures { result ≡ nat_abs margin }
 {
-    if margin < 0 {
-        return (!margin) as u32 + 1;
-    }
-    margin as u32
+    margin.unsigned_abs()
 }
 
 // The margin's bits as an unsigned number.
 pub fn twos_complement(margin: i32) -> u32
     ensures { result ≡ signed_bits margin }
 {
-    if margin < 0 {
-        return 4_294_967_295 - (!margin) as u32;
-    }
-    margin as u32
+    margin.cast_unsigned()
 }

@@ -1,78 +1,89 @@
 // The step instants of a task table, where demand rises: from one to the next without a division, each task's next deadline carried beside it.
-ghost use Rattle.std.specs.Prelude.{◌≡◌, min};
-ghost use Rattle.judge.specs.inner.Steps.{Columned, Stepped, Steppable};
+ghost use Rattle.std.specs.Prelude.{◌≡◌, ◌≤◌, length};
+ghost use Rattle.budget.specs.Limits.{most_tasks};
+ghost use Rattle.judge.specs.inner.Steps.{Begun, Stepped, Steppable, first_row};
 
-use budget::task::{Table, span};
+use budget::quantity::Time;
+use budget::task::{Task, span};
 
-// A table's periods, works and next deadlines, task by task.
+// What a walk carries of a task: its period, its work and its next deadline.
 #[derive(Clone, Copy)]
-pub struct Columns {
-    pub period: [u32; 64],
-    pub work: [u32; 64],
-    pub due: [u32; 64],
+pub struct Row {
+    pub period: u32,
+    pub work: u32,
+    pub due: u32,
 }
 
-// One step instant passed: the demand by then and the next step instant.
+// One instant passed: the demand before it and by then.
 #[derive(Clone, Copy)]
 pub struct Step {
+    pub at: u32,
+    pub before: u32,
     pub demand: u32,
-    pub next: u32,
 }
 
-// The earlier of two instants.
-pub(crate) fn earlier(a: u32, b: u32) -> u32
-    ensures { result ≡ min a b }
-{
-    if a < b {
-        return a;
-    }
-    b
+// A walk over the step instants of some tasks: a row for each, the instant to be passed next and the demand before it.
+#[derive(Drop)]
+pub struct Steps {
+    pub count: usize,
+    pub rows: [Row; 64],
+    pub at: u32,
+    pub demand: u32,
 }
 
-// The columns of a table as a run begins: each task's first deadline, with every job ready as late as it may be, is its next. In the places
-// from the count on stands whatever the table has there.
-pub(crate) fn columns_of(table: Table) -> Columns
-    ensures { Columned table.tasks result }
-{
-    let tasks = table.tasks;
-    let mut period = [0u32; 64];
-    let mut work = [0u32; 64];
-    let mut due = [0u32; 64];
-    let mut i = 0;
-    while i < 64 {
-        let task = tasks[i];
-        period[i] = task.period.0;
-        work[i] = task.work.0;
-        due[i] = span(task);
-        i += 1;
-    }
-    Columns { period, work, due }
-}
-
-// The demand rises by the work of each task that is due at this instant; such a task's next deadline is a period later.
-pub(crate) fn pass(
-    period: &[u32; 64],
-    work: &[u32; 64],
-    due: &mut [u32; 64],
-    count: usize,
-    at: u32,
-    demand: u32,
-) -> Step
-    requires { Steppable period.now work.now due.old count at demand }
-    ensures { Stepped period.now work.now due.old due.new count at demand result }
-{
-    let mut sum = demand;
-    let mut next = 1_048_577;
-    let mut i = 0;
-    while i < count {
-        let mut deadline = due[i];
-        if deadline == at {
-            deadline += period[i];
-            due[i] = deadline;
-            sum += work[i];
+impl Row {
+    // A task's row as a walk begins: with every job ready as late as it may be, its first deadline is its next.
+    fn first(task: Task) -> Row
+        ensures { result ≡ first_row task }
+    {
+        Row {
+            period: task.period.0,
+            work: task.work.0,
+            due: span(task),
         }
-        next = earlier(next, deadline);
-        i += 1;
     }
-    Step { demand: sum, next }
+}
+
+impl Steps {
+    // A walk over these tasks from instant 1 on.
+    pub(crate) fn new(tasks: &[Task]) -> Steps
+        requires { length tasks.now ≤ most_tasks }
+        ensures { Begun tasks.now result }
+    {
+        let mut rows = [Row {
+            period: 0,
+            work: 0,
+            due: 0,
+        }; 64];
+        for (i, task) in tasks.iter().enumerate() {
+            rows[i] = Row::first(*task);
+        }
+        Steps {
+            count: tasks.len(),
+            rows,
+            at: 1,
+            demand: 0,
+        }
+    }
+
+    // The demand rises by the work of each task that is due at this instant; such a task's next deadline is a period later.
+    pub(crate) fn pass(&mut self) -> Step
+        requires { Steppable self.old }
+        ensures { Stepped self.old self.new result }
+    {
+        let at = self.at;
+        let before = self.demand;
+        let mut demand = before;
+        let mut next = Time::LIMIT + 1;
+        for row in &mut self.rows[..self.count] {
+            if row.due == at {
+                row.due += row.period;
+                demand += row.work;
+            }
+            next = next.min(row.due);
+        }
+        self.at = next;
+        self.demand = demand;
+        Step { at, before, demand }
+    }
 }

@@ -3,27 +3,26 @@ ghost use Rattle.std.specs.Prelude.{◌≡◌};
 ghost use Rattle.judge.specs.inner.Tried.{sooner_short, verdict_from};
 
 use crate::answer::Verdict;
-use crate::steps::earlier;
 use budget::quantity::Time;
 
-// The first short instant once this instant has been tried too; the first one found stays.
+// The first short instant once this later instant has been tried too; the first one found stays.
 #[tactic(auto, unfolding(crate::specs::inner::Tried::sooner_short))]
-pub(crate) fn sooner_short(short: u32, at: u32, units: u32, demand: u32) -> u32
+pub(crate) fn sooner_short(short: Option<Time>, at: u32, units: u32, demand: u32) -> Option<Time>
     ensures { result ≡ sooner_short short at units demand }
 {
     if units < demand {
-        return earlier(short, at);
+        return short.or(Some(Time(at)));
     }
     short
 }
 
-// The verdict where the first short instant is known, past `length` for none.
+// The verdict where the first short instant is known.
 #[tactic(auto, unfolding(crate::specs::inner::Tried::verdict_from))]
-pub(crate) fn verdict_from(short: u32, length: u32) -> Verdict
-    ensures { result ≡ verdict_from short length }
+pub(crate) fn verdict_from(short: Option<Time>) -> Verdict
+    ensures { result ≡ verdict_from short }
 {
-    if length < short {
-        return Verdict::Accepted;
+    match short {
+        Some(at) => Verdict::Short(at),
+        None => Verdict::Accepted,
     }
-    Verdict::Short(Time(short))
 }

@@ -17,7 +17,7 @@ use Rattle.budget.specs.Interface.{valid_interface}
 use Rattle.budget.specs.Refusal as refusal
 use Rattle.budget.specs.Task.{tasks_of, valid_tasks}
 use Rattle.budget.proofs.Ranges.{unrefused}
-use Rattle.judge.specs.declared.answer.Judged.TheVariants.{Answered}
+use Rattle.judge.specs.numbers.Judged.{Answered}
 use Rattle.judge.specs.declared.answer.Verdict.TheVariants as Verdict
 use Rattle.judge.specs.Judged.{verdict_answer}
 use Rattle.judge.specs.Verdict.{Accepted}

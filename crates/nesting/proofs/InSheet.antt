@@ -11,8 +11,8 @@ use Rattle.budget.specs.Component.{interface_at, with_tasks}
 use Rattle.budget.specs.Refusal as refusal
 use Rattle.budget.specs.Task.{tasks_of}
 use Rattle.budget.proofs.TableLaws.{tasks_of_table}
-use Rattle.judge.specs.declared.answer.Answer.{Answer}
-use Rattle.judge.specs.declared.answer.Judged.TheVariants.{Answered}
+use Rattle.judge.specs.numbers.Answer.{Answer}
+use Rattle.judge.specs.numbers.Judged.{Answered}
 use Rattle.judge.specs.declared.answer.Verdict.TheVariants as Verdict
 use Rattle.judge.specs.Answer.{judge_answer}
 use Rattle.judge.specs.Judged.{verdict_answer}

@@ -16,9 +16,9 @@ use Rattle.budget.specs.Limits.{most_tasks}
 use Rattle.budget.specs.Refusal as refusal
 use Rattle.budget.specs.Task.{tasks_of}
 use Rattle.budget.proofs.Valid.{both}
-use Rattle.judge.specs.declared.answer.Judged.{Judged}
-use Rattle.judge.specs.declared.answer.Judged.TheVariants.{Answered, Refused}
-use Rattle.judge.specs.declared.answer.Margined.{Margined}
+use Rattle.judge.specs.numbers.Judged.{Judged}
+use Rattle.judge.specs.numbers.Judged.{Answered, Refused}
+use Rattle.judge.specs.numbers.Margined.{Margined}
 use Rattle.judge.specs.declared.answer.Verdict.TheVariants as Verdict
 use Rattle.record.specs.declared.layout.Pair.{Pair}
 use Rattle.record.specs.Field.{Bytes}

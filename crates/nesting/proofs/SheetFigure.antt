@@ -18,8 +18,8 @@ use Rattle.budget.specs.Interface.{dedicated, interface, valid_interface}
 use Rattle.budget.specs.Supply.{supply, whole_periods}
 use Rattle.budget.specs.Task.{table_of, tasks_of, valid_task, valid_tasks}
 use Rattle.budget.proofs.Valid.{both}
-use Rattle.judge.specs.declared.answer.Judged.TheVariants.{Answered}
-use Rattle.judge.specs.declared.answer.Margined.TheVariants as Margin
+use Rattle.judge.specs.numbers.Judged.{Answered}
+use Rattle.judge.specs.numbers.Margined as Margin
 use Rattle.judge.specs.declared.answer.Verdict.TheVariants as Verdict
 use Rattle.judge.specs.Judged.{judged_at, verdict_answer}
 use Rattle.judge.specs.Margin.{margin_answer, margin_on, margined_at, tight_at, tight_instant, tried}

@@ -7,8 +7,8 @@ use Rattle.budget.specs.Component.{component_refusal, interface_at, with_tasks}
 use Rattle.budget.specs.Interface.{Π}
 use Rattle.budget.specs.Refusal as refusal
 use Rattle.budget.specs.Task.{tasks_of}
-use Rattle.judge.specs.declared.answer.Judged.TheVariants.{Answered}
-use Rattle.judge.specs.declared.answer.Margined.{Margined}
+use Rattle.judge.specs.numbers.Judged.{Answered}
+use Rattle.judge.specs.numbers.Margined.{Margined}
 use Rattle.judge.specs.declared.answer.Verdict.TheVariants as Verdict
 use Rattle.judge.specs.Answer.{judge_answer}
 use Rattle.judge.specs.Judged.{verdict_answer}

@@ -21,8 +21,8 @@ use Rattle.budget.specs.Supply.{supply}
 use Rattle.budget.specs.Task.{tasks_of, valid_tasks}
 use Rattle.budget.proofs.Ranges.{unrefused}
 use Rattle.budget.proofs.Valid.{valid_interface_lem}
-use Rattle.judge.specs.declared.answer.Judged.TheVariants.{Answered}
-use Rattle.judge.specs.declared.answer.Smallest.TheVariants as Search
+use Rattle.judge.specs.numbers.Judged.{Answered}
+use Rattle.judge.specs.numbers.Smallest as Search
 use Rattle.judge.specs.declared.answer.Verdict.TheVariants as Variant
 use Rattle.judge.specs.declared.answer.Verdict.{Verdict}
 use Rattle.judge.specs.Capacity.{capacity_answer, capacity_of}

@@ -10,10 +10,10 @@ use Rattle.budget.specs.Component.{component_refusal, interface_at}
 use Rattle.budget.specs.Interface.{Π}
 use Rattle.budget.specs.Refusal as refusal
 use Rattle.budget.specs.Task.{tasks_of}
-use Rattle.judge.specs.declared.answer.Judged.{Judged}
-use Rattle.judge.specs.declared.answer.Judged.TheVariants.{Answered, Refused}
-use Rattle.judge.specs.declared.answer.Smallest.{Smallest}
-use Rattle.judge.specs.declared.answer.Smallest.TheVariants as Search
+use Rattle.judge.specs.numbers.Judged.{Judged}
+use Rattle.judge.specs.numbers.Judged.{Answered, Refused}
+use Rattle.judge.specs.numbers.Smallest.{Smallest}
+use Rattle.judge.specs.numbers.Smallest as Search
 use Rattle.judge.specs.declared.answer.Verdict.TheVariants as Variant
 use Rattle.judge.specs.Capacity.{capacity_answer}
 use Rattle.judge.specs.Judged.{verdict_answer}

@@ -10,8 +10,8 @@ use Rattle.budget.specs.Interface.{interface, dedicated}
 use Rattle.budget.specs.Limits.{limit}
 use Rattle.budget.specs.Supply.{supply}
 use Rattle.budget.specs.Task.{valid_tasks}
-use Rattle.judge.specs.declared.answer.Margined.{Margined}
-use Rattle.judge.specs.declared.answer.Margined.TheVariants.{Least}
+use Rattle.judge.specs.numbers.Margined.{Margined}
+use Rattle.judge.specs.numbers.Margined.{Least}
 use Rattle.judge.specs.declared.answer.Verdict.{Verdict}
 use Rattle.judge.specs.declared.answer.Verdict.TheVariants.{Accepted, Short}
 use Rattle.judge.specs.Capacity.{smallest_capacity}

@@ -11,10 +11,10 @@ use Rattle.budget.specs.Demand.{demand}
 use Rattle.budget.specs.Refusal as refusal
 use Rattle.budget.specs.Supply.{supply}
 use Rattle.budget.specs.Task.{tasks_of}
-use Rattle.judge.specs.declared.answer.Answer.{Answer}
-use Rattle.judge.specs.declared.answer.Judged.TheVariants.{Answered, Refused}
-use Rattle.judge.specs.declared.answer.Margined.TheVariants as Margin
-use Rattle.judge.specs.declared.answer.Smallest.TheVariants as Search
+use Rattle.judge.specs.numbers.Answer.{Answer}
+use Rattle.judge.specs.numbers.Judged.{Answered, Refused}
+use Rattle.judge.specs.numbers.Margined as Margin
+use Rattle.judge.specs.numbers.Smallest as Search
 use Rattle.judge.specs.declared.answer.Verdict.TheVariants as Variant
 use Rattle.judge.specs.declared.answer.Verdict.{Verdict}
 use Rattle.judge.specs.Answer.{judge_answer}

@@ -1,9 +1,9 @@
 -- The lines of the listing (RULES 15), as lists of bytes.
 use Rattle.std.specs.Prelude.{ℕ, List, [], ◌∷◌, ◌++◌}
 use Rattle.budget.specs.declared.quantity.Units.{Units}
-use Rattle.judge.specs.declared.answer.Answer.{Answer}
-use Rattle.judge.specs.declared.answer.Judged.TheVariants as Judged
-use Rattle.judge.specs.declared.answer.Margined.{Margined}
+use Rattle.judge.specs.numbers.Answer.{Answer}
+use Rattle.judge.specs.numbers.Judged as Judged
+use Rattle.judge.specs.numbers.Margined.{Margined}
 use Rattle.judge.specs.declared.answer.Verdict.{Verdict}
 use Rattle.tree.specs.declared.answer.Outcome.{Outcome}
 use Rattle.report.specs.Text.{decimal, signed_text, spaced}

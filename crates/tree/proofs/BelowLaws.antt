@@ -12,8 +12,8 @@ use lib.ListN.{length, get_or, take, drop, set, drop_of_length-le}
 use lib.Seq.{drop-cons, take-suc-set}
 use borrow.Author.Tests.{eqb-true, eq-eqb}
 use Rattle.budget.specs.declared.component.Component.{Component}
-use Rattle.judge.specs.declared.answer.Judged.{Judged}
-use Rattle.judge.specs.declared.answer.Judged.TheVariants.{Refused, Answered}
+use Rattle.judge.specs.numbers.Judged.{Judged}
+use Rattle.judge.specs.numbers.Judged.{Refused, Answered}
 use Rattle.judge.specs.declared.answer.Verdict.TheVariants as Verdict
 use Rattle.record.specs.declared.layout.Pair.{Pair}
 use Rattle.record.proofs.Cases.{cases, either}

@@ -14,8 +14,8 @@ use Rattle.budget.specs.Demand.{demand, jobs_by}
 use Rattle.budget.specs.Interface.{valid_interface, interface_refusal}
 use Rattle.budget.specs.Supply.{supply, whole_periods}
 use Rattle.budget.specs.Task.{table_of, tasks_of, valid_task, valid_tasks, task_refusal}
-use Rattle.judge.specs.declared.answer.Judged.TheVariants.{Answered}
-use Rattle.judge.specs.declared.answer.Margined.TheVariants as Margin
+use Rattle.judge.specs.numbers.Judged.{Answered}
+use Rattle.judge.specs.numbers.Margined as Margin
 use Rattle.judge.specs.declared.answer.Verdict.TheVariants as Verdict
 use Rattle.judge.specs.Judged.{judged_at, verdict_answer}
 use Rattle.judge.specs.Margin.{margin_answer, margined_at, margin_on, tight_at, tight_instant, tried}

@@ -23,8 +23,8 @@ use Rattle.budget.proofs.CommonLaws.{with_tasks_right}
 use Rattle.budget.proofs.TableLaws.{tasks_of_table}
 use Rattle.budget.proofs.Ranges.{InRange, in_range, refused_period}
 use Rattle.budget.proofs.Valid.{and_true, both, task_valid, valid_interface_lem}
-use Rattle.judge.specs.declared.answer.Judged.{Judged}
-use Rattle.judge.specs.declared.answer.Judged.TheVariants.{Refused, Answered}
+use Rattle.judge.specs.numbers.Judged.{Judged}
+use Rattle.judge.specs.numbers.Judged.{Refused, Answered}
 use Rattle.judge.specs.declared.answer.Verdict.{Verdict}
 use Rattle.judge.specs.Capacity.{capacity_of}
 use Rattle.judge.specs.Judged.{judged_at, verdict_answer}

@@ -2,8 +2,8 @@
 use Rattle.std.specs.Prelude.{ℕ, ◌≤◌, ◌<◌, List, ◌≡◌, length}
 use Rattle.budget.specs.Limits.{most_tasks}
 use Rattle.budget.specs.Refusal as refusal
-use Rattle.judge.specs.declared.answer.Answer.{Answer}
-use Rattle.judge.specs.declared.answer.Judged.TheVariants.{Refused}
+use Rattle.judge.specs.numbers.Answer.{Answer}
+use Rattle.judge.specs.numbers.Judged.{Refused}
 use Rattle.judge.specs.Answer.{judge_answer}
 use Rattle.record.specs.Field.{Bytes}
 use Rattle.sheet.specs.Check.{check, pairs_of}

@@ -2,8 +2,8 @@
 use Rattle.std.specs.Prelude.{ℕ, Bool, cond, not, List, [], ◌∷◌, eqb}
 use Rattle.budget.specs.declared.component.Component.{Component}
 use Rattle.budget.specs.declared.task.Task.{Task}
-use Rattle.judge.specs.declared.answer.Judged.{Judged}
-use Rattle.judge.specs.declared.answer.Judged.TheVariants.{Refused, Answered}
+use Rattle.judge.specs.numbers.Judged.{Judged}
+use Rattle.judge.specs.numbers.Judged.{Refused, Answered}
 use Rattle.judge.specs.declared.answer.Verdict.TheVariants as Verdict
 use Rattle.tree.specs.declared.answer.Outcome.{Outcome}
 use Rattle.tree.specs.declared.offer.Offer.{Offer}

@@ -3,8 +3,8 @@
 use Rattle.std.specs.Prelude.{ℕ, suc, ◌≤◌, List, ◌≡◌}
 use Rattle.budget.specs.declared.interface.Interface.{Interface}
 use Rattle.budget.specs.declared.task.Task.{Task}
-use Rattle.judge.specs.declared.answer.Margined.{Margined}
-use Rattle.judge.specs.declared.answer.Margined.TheVariants as Variant
+use Rattle.judge.specs.numbers.Margined.{Margined}
+use Rattle.judge.specs.numbers.Margined as Variant
 use Rattle.judge.specs.Margin.{Step, Tightest, margin_at}
 
 abbrev pub MarginSays : List Task → Interface → ℕ → Margined → Type 0

@@ -1,63 +1,86 @@
--- `judge::capacity::least_capacity` meets its contract. The loop's invariant: the next deadlines and the demand are those of the instant before `at`, the
--- capacity fits at every instant before `at`, and every smaller one is short. The measure is what is left of the instants.
-use Prim.Native.Nat.{ℕ, ◌≤◌}
-use mathlib.Core.Path.{sym}
+-- `judge::capacity::least_capacity` meets its contract. The loop's invariant: the walk is over the component's tasks, the capacity fits at every instant
+-- before its next one, and every smaller capacity is short. The measure is what is left of the instants.
+use Prim.Native.Nat.{ℕ, suc, ◌≤◌}
+use mathlib.Core.Path.{◌≡◌, sym, ap, subst}
+use mathlib.Core.List.{List}
 use native.Mathlib.Omega.{arith}
-use Rattle.budget.specs.Demand.{demand}
+use Rattle.std.specs.Prelude.{None}
+use Rattle.budget.specs.declared.interface.Interface.{Interface}
+use Rattle.budget.specs.declared.task.Task.{Task}
 use Rattle.budget.specs.Limits.{limit}
 use Rattle.budget.specs.Task.{tasks_of}
-use Rattle.budget.proofs.Places.{length_mapped}
-use Rattle.judge.proofs.CapacityLaws.{found_start, found_end, found_none, found_on, capacity_valid}
-use Rattle.judge.proofs.StepLaws.{Moved, carried_start, carried_steppable, carried_moved, carried_next}
-use Rattle.judge.specs.inner.Raise.{Raised}
+use Rattle.judge.specs.declared.steps.Step.{Step}
+use Rattle.judge.specs.inner.Raise.{Enough, Raised}
+use Rattle.judge.specs.inner.Steps.{Begun}
+use Rattle.judge.proofs.CapacityLaws.{Found, found_start, found_end, found_none, found_on, some_found, none_found}
+use Rattle.judge.proofs.StepLaws.{Moved, carried_start, carried_steppable, moved}
+use Rattle.judge.proofs.Whole.{few, in_range_at, scannable}
 use Rattle.judge.proofs.capacity.least_capacity.Goals as goal
 use Rattle.judge.proofs.capacity.least_capacity.Goals.{After-pass-step}
 
-in_limit : (a : After-pass-step) → a.instants.at ≤ limit
-in_limit a = omega (arith, a.if-length-at.false, a.requires.bounded)
+in_limit : (a : After-pass-step) → a.instants.steps.at ≤ limit
+in_limit a = omega (arith, a.if-length-steps.false, (scannable _ _ a.requires 0 (omega arith)).bounded)
 
 -- the step taken in this turn
-on : (a : After-pass-step)
-    → Moved (tasks_of a.args.table) a.pass-step.new.due a.instants.at a.pass-step.result.demand a.pass-step.result.next
-on a = carried_moved _ a.requires.few a.requires.tasks _ _ _ _ _ (in_limit a) a.instants.invariant.0 _ _ _ a.pass-step.ensures
+on : (a : After-pass-step) → Moved (tasks_of a.args.component.table) a.instants.invariant.0.before a.pass-step.new.self a.pass-step.result
+on a = moved _ (scannable _ _ a.requires 0 (omega arith)).tasks _ a.instants.invariant.0 (in_limit a) _ _ a.pass-step.ensures
 
--- the capacity raised in this turn is raised for the demand at this instant
-for_demand : (a : After-pass-step) (r : ℕ) → Raised a.args.period.0 a.args.deadline.0 a.instants.capacity a.instants.at a.pass-step.result.demand r
-    → Raised a.args.period.0 a.args.deadline.0 a.instants.capacity a.instants.at (demand (tasks_of a.args.table) a.instants.at) r
-for_demand a r w = rw (← (on a).known) w
+-- what is found before this turn's instant
+before : (a : After-pass-step)
+    → Found (tasks_of a.args.component.table) a.args.component.period.0 a.args.component.deadline.0 a.args.length.0 (suc a.instants.invariant.0.before) a.instants.capacity.0
+before a =
+    let k = a.args.component in
+    subst (λ (at : ℕ). Found (tasks_of k.table) k.period.0 k.deadline.0 a.args.length.0 at a.instants.capacity.0) a.instants.invariant.0.is a.instants.invariant.1
+
+-- what holds of an interface and a step holds of equal ones
+same : (P : Interface → Step → Type 0) {i j : Interface} {s t : Step} → i ≡ j → s ≡ t → P i s → P j t
+same P {j = j} {s = s} e f x = subst (λ (y : Step). P j y) f (subst (λ (y : Interface). P y s) e x)
+
+pub new-steps-requires : goal.new-steps-requires
+new-steps-requires c = rw c.tasks.ensures (few _ c.requires.passes)
 
 pub instants-init : goal.instants-init
 instants-init c =
-    let columns = c.columns_of-columns in (
-      carried_start c.args.table c.requires.few c.requires.tasks columns.result (search length_mapped) columns.ensures,
-      found_start _ _ _ _,
+    let s = scannable _ _ c.requires 0 (omega arith) in (
+      carried_start _ s.few s.tasks _ (subst (λ (ks : List Task). Begun ks c.new-steps.result) c.tasks.ensures c.new-steps.ensures),
+      subst (λ (at : ℕ). Found (tasks_of c.args.component.table) c.args.component.period.0 c.args.component.deadline.0 c.args.length.0 at 0)
+          (sym c.new-steps.ensures.at) (found_start _ _ _ _),
     )
 
 pub pass-step-requires : goal.pass-step-requires
 pass-step-requires c =
-    let pre = c.requires in
-    carried_steppable _ pre.few pre.tasks _ _ _ _ _ (omega (arith, c.if-length-at.false, pre.bounded)) c.instants.invariant.0
+    let s = scannable _ _ c.requires 0 (omega arith) in
+    carried_steppable _ s.tasks _ c.instants.invariant.0 s.few (omega (arith, c.if-length-steps.false, s.bounded))
 
-pub raised-capacity-requires : goal.raised-capacity-requires
-raised-capacity-requires c =
-    record { interface = capacity_valid _ _ _ c.requires.interface _ c.instants.invariant.1.within; bounded = in_limit c }
+pub raised-requires : goal.raised-requires
+raised-requires c =
+    let a = (goal.at.raised-requires c).After-pass-step in
+    record {
+      interface = rw c.interface_at.ensures (in_range_at _ c.requires.passes _ c.instants.invariant.1.within);
+      bounded = omega (arith, in_limit a, c.instants.invariant.0.is, ap (λ (s : Step). s.at) (on a).tells);
+    }
 
 pub instants-smaller : goal.instants-smaller
-instants-smaller c = omega (arith, c.if-length-at.false, (on (goal.at.instants-smaller c).After-pass-step).later)
+instants-smaller c =
+    omega (arith, c.if-length-steps.false, c.instants.invariant.0.is, (on (goal.at.instants-smaller c).After-pass-step).later)
 
 pub instants-preserved : goal.instants-preserved
 instants-preserved c =
-    let a = (goal.at.instants-preserved c).After-pass-step in (
-      carried_next _ c.requires.few c.requires.tasks _ _ _ _ _ (in_limit a) c.instants.invariant.0 _ _ _ c.pass-step.ensures,
-      found_on _ _ _ _ _ c.requires.interface _ _ _ c.instants.invariant.1 (omega (arith, c.instants.invariant.0.ready.is)) c.if-length-at.false
-          (for_demand a _ c.raised-capacity.ensures) c.if-last-capacity.false _ (on a).still,
-    )
+    let a = (goal.at.instants-preserved c).After-pass-step in
+    let m = on a in
+    let h : suc c.instants.invariant.0.before ≤ c.args.length.0 = omega (arith, c.if-length-steps.false, c.instants.invariant.0.is) in
+    let valid = in_range_at _ c.requires.passes _ c.instants.invariant.1.within in
+    let enough = same (λ i s. Enough i s.at s.demand c.in-Some.enough.0) c.interface_at.ensures m.tells c.in-Some.ensures in
+    (m.carried, found_on _ _ _ _ _ _ (before a) (omega arith) h _ valid _ enough _ m.still)
 
-pub returns-then-length-at : goal.returns-then-length-at
-returns-then-length-at c = sym (found_end _ _ _ _ _ _ c.instants.invariant.1 c.if-length-at.true)
+pub returns-then-length-steps : goal.returns-then-length-steps
+returns-then-length-steps c =
+    some_found _ _ c.requires.is _ (found_end _ _ _ _ _ _ c.instants.invariant.1 c.if-length-steps.true) c.instants.invariant.1.within
 
-pub returns-then-last-capacity : goal.returns-then-last-capacity
-returns-then-last-capacity c =
-    sym
-    (found_none _ _ _ _ _ c.requires.interface _ _ _ c.instants.invariant.1 (omega (arith, c.instants.invariant.0.ready.is)) c.if-length-at.false
-    (for_demand (goal.at.returns-then-last-capacity c).After-pass-step _ c.raised-capacity.ensures) c.if-last-capacity.true)
+pub returns-in_default : goal.returns-in_default
+returns-in_default c =
+    let a = (goal.at.returns-in_default c).After-pass-step in
+    let m = on a in
+    let h : suc c.instants.invariant.0.before ≤ c.args.length.0 = omega (arith, c.if-length-steps.false, c.instants.invariant.0.is) in
+    let short = same (λ i s. Raised i s.at s.demand None) c.interface_at.ensures m.tells c.in_default.ensures in
+    none_found _ _ c.requires.is _ (found_none _ _ _ _ _ _ (before a) (omega arith) h short) (omega arith)

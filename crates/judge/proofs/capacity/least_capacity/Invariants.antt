@@ -1,5 +1,5 @@
--- `judge::capacity::least_capacity` meets its contract. The loop's invariant: the next deadlines and the demand are those of the instant before `at`, the
--- capacity fits at every instant before `at`, and every smaller one is short. The measure is what is left of the instants.
+-- `judge::capacity::least_capacity` meets its contract. The loop's invariant: the walk is over the component's tasks, the capacity fits at every instant
+-- before its next one, and every smaller capacity is short. The measure is what is left of the instants.
 use Prim.Native.Nat.{◌-◌, ◌+◌}
 use Rattle.budget.specs.Task.{tasks_of}
 use Rattle.judge.proofs.CapacityLaws.{Found}
@@ -8,7 +8,8 @@ use Rattle.judge.proofs.capacity.least_capacity.Given as goal
 
 abbrev pub invariant-instants : goal.invariant-instants
 invariant-instants l =
-    Carried l.table l.periods l.works l.due l.at l.demand × Found (tasks_of l.table) l.period.0 l.deadline.0 l.length l.at l.capacity
+    let ks = tasks_of l.component.table in
+    Carried ks l.steps × Found ks l.component.period.0 l.component.deadline.0 l.length.0 l.steps.at l.capacity.0
 
 abbrev pub decreases-instants : goal.decreases-instants
-decreases-instants l = l.length + 1 - l.at
+decreases-instants l = l.length.0 + 1 - l.steps.at

@@ -9,19 +9,19 @@ use Rattle.judge.proofs.capacity.raised.Goals as goal
 use Rattle.judge.proofs.capacity.raised.Goals.{Start}
 
 -- the capacity to begin with is in range, and the deadline is small
-in_range : (s : Start) → s.args.from ≤ s.args.deadline.0
+in_range : (s : Start) → s.args.interface.capacity.0 ≤ s.args.interface.deadline.0
 in_range s = (valid_interface_lem _ s.requires.interface).fits
 
-small : (s : Start) → s.args.deadline.0 ≤ limit
+small : (s : Start) → s.args.interface.deadline.0 ≤ limit
 small s = let v = valid_interface_lem _ s.requires.interface in le_trans v.within v.bounded
 
-pub returns-then-demand-units_at : goal.returns-then-demand-units_at
-returns-then-demand-units_at c =
+pub returns-then-step-units_at : goal.returns-then-step-units_at
+returns-then-step-units_at c =
     record {
       up = omega arith;
-      within = omega (arith, in_range (goal.at.returns-then-demand-units_at c).Start);
+      within = in_range (goal.at.returns-then-step-units_at c).Start;
       short = λ q l h. absurd (omega (arith, l, h));
-      fits = λ h. omega (arith, c.if-demand-units_at.true, c.units_at.ensures);
+      fits = omega (arith, c.if-step-units_at.true, c.units_at.ensures);
     }
 
 pub overflow_add-low : goal.overflow_add-low
@@ -32,7 +32,7 @@ overflow_add-high c = omega (arith, small (goal.at.overflow_add-high c).Start)
 
 pub loop-low-init : goal.loop-low-init
 loop-low-init c =
-    halving_start _ _ _ c.requires.interface _ _ _ (in_range (goal.at.loop-low-init c).Start) (omega (arith, c.if-demand-units_at.false, c.units_at.ensures))
+    halving_start _ _ _ c.requires.interface _ _ _ (in_range (goal.at.loop-low-init c).Start) (omega (arith, c.if-step-units_at.false, c.units_at.ensures))
 
 pub units_at-requires-in-loop-low : goal.units_at-requires-in-loop-low
 units_at-requires-in-loop-low c =
@@ -41,8 +41,8 @@ units_at-requires-in-loop-low c =
       bounded = c.requires.bounded;
     }
 
-pub loop-low-preserved-then-units_at-demand : goal.loop-low-preserved-then-units_at-demand
-loop-low-preserved-then-units_at-demand c =
+pub loop-low-preserved-then-units_at-step : goal.loop-low-preserved-then-units_at-step
+loop-low-preserved-then-units_at-step c =
     let h = c.loop-low-test.true in
     halving_up _ _ _ c.requires.interface _ _ _ _ _ _ c.loop-low.invariant (omega (arith, h)) (omega (arith, h))
-    (omega (arith, c.if-units_at-demand.true, c.units_at-in-loop-low.ensures))
+    (omega (arith, c.if-units_at-step.true, c.units_at-in-loop-low.ensures))

@@ -4,7 +4,8 @@ use Rattle.judge.proofs.CapacityLaws.{Halving}
 use Rattle.judge.proofs.capacity.raised.Given as goal
 
 abbrev pub invariant-loop-low : goal.invariant-loop-low
-invariant-loop-low l = Halving l.period.0 l.deadline.0 l.from l.at l.demand l.low l.high
+invariant-loop-low l =
+    Halving l.interface.period.0 l.interface.deadline.0 l.from l.step.at l.step.demand l.low l.high
 
 abbrev pub decreases-loop-low : goal.decreases-loop-low
 decreases-loop-low l = l.high - l.low

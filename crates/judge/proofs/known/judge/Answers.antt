@@ -1,0 +1,15 @@
+-- `judge::known::judge` meets its contract: the refusal of the common period asked for, or the answer over it.
+use mathlib.Core.Path.{refl}
+use Rattle.std.proofs.lemmas.Result.{err_from_is_err_and}
+use Rattle.budget.proofs.Refusals.{some}
+use Rattle.judge.proofs.AnswerLaws.{refused_answer}
+use Rattle.judge.proofs.Whole.{refused, whole}
+use Rattle.judge.proofs.known.judge.Goals as goal
+
+pub returns-in_err-length : goal.returns-in_err-length
+returns-in_err-length c =
+    let p = err_from_is_err_and c.from_residual.result c.from_residual.ensures.1 in
+    rw (p.1, p.2) (refused_answer _ _ (refused _ _ c.in_err-length.ensures) (some c.in_err-length.field-0.0))
+
+pub judge_over-requires : goal.judge_over-requires
+judge_over-requires c = whole _ _ c.in_ok-length.ensures refl

@@ -1,0 +1,7 @@
+-- The judge's answers as numbers (RULES 7, 8, 12): a refusal is its number, and each part of an answer is whole by itself. The definitions and the theorems
+-- speak of these; a reading says which of them each answer of the program is.
+pub mod Answer
+pub mod Judged
+pub mod Margined
+pub mod Smallest
+pub mod Tight
