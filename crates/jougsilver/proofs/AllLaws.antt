@@ -12,7 +12,7 @@ use mir.Val.{Fits}
 use Rattle.jougsilver.specs.Host.{all_refusal, all_reply, entries_to}
 use Rattle.record.specs.Writing.{buffered, room_refusal, stored}
 use Rattle.record.proofs.StoreLaws.{room_free, sets_append}
-use Rattle.sheet.specs.declared.check.Checked.{Checked}
+use Rattle.sheet.specs.Check.{Checked}
 use Rattle.sheet.specs.Check.{check}
 use Rattle.transfer.specs.Reply.{checked_bytes}
 use Rattle.jougsilver.proofs.EntryLaws.{entries_length, numbers_length, stored_all}

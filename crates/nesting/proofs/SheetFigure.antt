@@ -28,7 +28,7 @@ use Rattle.judge.specs.Verdict.{accepts, first_short, is_short, verdict_on}
 use Rattle.record.specs.declared.layout.Pair.{Pair}
 use Rattle.record.specs.Field.{Bytes, encode}
 use Rattle.record.specs.Layout.{end_bytes, head_bytes, pair_bytes, task_bytes, task_bytes_by}
-use Rattle.sheet.specs.declared.check.Checked.{Checked}
+use Rattle.sheet.specs.Check.{Checked}
 use Rattle.sheet.specs.Check.{check, pairs_of}
 use Rattle.sheet.specs.Pairs.{Nested, named, own_tasks, pair_refusal, pairs, registered, rises}
 use Rattle.transfer.specs.declared.read.Reading.{Reading}

@@ -8,7 +8,7 @@ use lib.ListN.{length, take, drop, length-append}
 use borrow.Author.Tests.{eq-eqb, ne_eqb}
 use lib.Seq.{sets, length-sets, sets-eq, take_at}
 use Rattle.budget.specs.Refusal as refusal
-use Rattle.sheet.specs.declared.check.Checked.{Checked}
+use Rattle.sheet.specs.Check.{Checked}
 use Rattle.sheet.specs.Check.{check}
 use Rattle.transfer.specs.Reading.{reading}
 use Rattle.record.proofs.StoreLaws.{sets_append}

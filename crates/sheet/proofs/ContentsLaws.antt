@@ -8,12 +8,10 @@ use lib.ListN.{length, get_or}
 use lib.Dec.{eqb}
 use borrow.Author.Tests.{eqb-true, eqb-false}
 use Rattle.record.proofs.Cases.{cases}
-use Rattle.sheet.specs.declared.check.Checked.{Checked}
-use Rattle.sheet.specs.declared.judging.State.{State}
-use Rattle.sheet.specs.Judging.{opened, judged}
+use Rattle.sheet.specs.Judging.{State, opened, judged}
 use Rattle.sheet.specs.Register.{walked, held_of}
 use Rattle.sheet.specs.Pairs.{paired}
-use Rattle.sheet.specs.Check.{checked_of, check}
+use Rattle.sheet.specs.Check.{Checked, checked_of, check}
 use Rattle.sheet.specs.Contents.{edge_of, edges_of, no_edges, contents_of}
 use Rattle.sheet.proofs.JudgingLaws.{orderly}
 use Rattle.sheet.proofs.WalkLaws.{held_between, held_rises}

@@ -1,5 +1,5 @@
--- The numbers that the walk over pairs keeps say all that the next record is judged by, at its start and behind each record: a parent's place
--- holds its own tasks and its children so far.
+-- What the walk over pairs holds says all that the next record is judged by, at its start and behind each record: a parent holds its own tasks and
+-- its children so far.
 use Prim.Native.Nat.{ℕ, suc, ◌+◌, ◌-◌, ◌≤◌, ◌<◌}
 use mathlib.Core.Path.{◌≡◌, refl, sym, ap, ◌∙◌}
 use mathlib.Core.Bool.{Bool, true, false, ◌&&◌}
@@ -8,133 +8,130 @@ use native.Mathlib.Omega.{arith}
 use lib.ListN.{length, get_or, set, take, drop, length-set, length-drop}
 use lib.Seq.{get_or-set_same, get_or-set_other}
 use lib.Dec.{leb, ltb, eqb}
-use borrow.Author.Tests.{leb-true, leb-false, le-leb, lt-ltb, le-ltb, ltb-true, eqb-true, eqb-false, ne_eqb}
+use borrow.Author.Tests.{leb-true, leb-false, le-leb, lt-leb, lt-ltb, le-ltb, eqb-true, eqb-false}
+use Rattle.std.specs.Prelude.{Some, is_some}
+use Rattle.std.proofs.lemmas.List.{length-map}
+use Rattle.budget.specs.declared.refusal.Refusal.TheVariants as refusal
 use Rattle.budget.proofs.Valid.{both, and_true}
 use Rattle.record.specs.declared.layout.Pair.{Pair}
 use Rattle.record.specs.Record.{Record, PairRecord}
 use Rattle.record.specs.Layout.{size_of, record_of}
-use Rattle.record.proofs.Cases.{cases, either}
+use Rattle.record.proofs.Cases.{either}
+use Rattle.sheet.specs.declared.judging.State.{State}
 use Rattle.sheet.specs.declared.pairs.Course.{Course}
 use Rattle.sheet.specs.Register.{Entry}
 use Rattle.sheet.specs.Pairs.{Pairing, registered, own_tasks, named, rises, pairs, pair_refusal, stopped, after_pair, pair_judged, pair_step}
-use Rattle.sheet.specs.inner.PairCourse.{entries_in, sought, answered, halted, behind_pair, Kept}
+use Rattle.sheet.specs.inner.PairCourse.{entry_in, entries_in, found, Kept}
 use Rattle.sheet.proofs.WalkLaws.{rest_is}
 use Rattle.sheet.proofs.PairLaws.{PairTaken, pair_taken}
 use Rattle.sheet.proofs.NestedLaws.{named_append, named_one, rises_append}
-use Rattle.sheet.proofs.SoughtLaws.{sought_within, sought_own, entries_counted, sought_registered, sought_tasks}
+use Rattle.sheet.proofs.SoughtLaws.{Numbered, found_within, found_number, found_once, found_set, found_registered, found_tasks}
 
 and_false : (a : Bool) {b : Bool} → b ≡ false → (a && b) ≡ false
 and_false true e = e
 and_false false e = refl
 
 -- before the first pair
-pub kept_first : (lowest tasks : List ℕ) (count at : ℕ) → ((i : ℕ) → i < count → 0 < get_or lowest (suc i) 0) → length tasks ≡ 257
-    → Kept lowest tasks count (entries_in lowest tasks count) (record { going = true; refusal = 0; place = at; lowest = 0 }) (record { going = true; refusal = 0; place = at; pairs = [] })
-unfolding entries_in rises named
-kept_first lowest tasks count at noted long =
+pub kept_first : (cs : List State) (at : ℕ) → Numbered cs
+    → Kept cs (entries_in cs) (record { place = at; lowest = 0 }) (record { going = true; refusal = 0; place = at; pairs = [] })
+unfolding rises named
+kept_first cs at h =
     record {
       going = refl;
-      refused = refl;
       place = refl;
-      counted = entries_counted lowest tasks count 0;
-      long = long;
-      known = λ n. sought_registered lowest tasks count n noted;
+      counted = length-map cs entry_in;
+      known = found_registered cs h;
       rise = λ n. le-leb 0 n (omega arith);
-      load = λ n e. sought_tasks lowest tasks count n noted e ∙ omega arith;
+      load = λ n k d e. found_tasks cs h n k d e ∙ omega arith;
     }
 
-module _ (lowest loads : List ℕ) (count : ℕ) (es : List Entry) (c : Course) (st : Pairing) (k : Kept lowest loads count es c st) where
-  -- where it stops
-  pub kept_halted : (n : ℕ) → Kept lowest loads count es (halted n c) (stopped n st)
-  unfolding halted stopped
-  kept_halted n =
-      record { going = refl; refused = refl; place = k.place; counted = k.counted; long = k.long; known = k.known; rise = k.rise; load = k.load }
+module _ (cs : List State) (es : List Entry) (c : Course) (st : Pairing) (w : Kept cs es c st) (p : Pair) where
+  -- the tests of a pair are those of the rules
+  tests : pairs es st.pairs p ≡ ((ltb p.child p.parent && leb c.lowest p.child) && (is_some (found cs p.child) && is_some (found cs p.parent)))
+  unfolding pairs
+  tests = rw (w.known p.child, w.known p.parent, w.rise p.child)
 
-  module _ (p : Pair) where
-    abbrev at : ℕ
-    at = sought lowest count p.parent
+  refused : pairs es st.pairs p ≡ false → pair_judged es st (PairRecord p) 0 ≡ stopped 16 st
+  unfolding pair_judged pair_refusal
+  refused e = rw e
 
-    -- a pair is answered as the rules say
-    pub answered_is : answered c.lowest (sought lowest count p.child) at (get_or loads at 0) p ≡ pair_refusal es st.pairs p
-    unfolding answered pair_refusal pairs
-    answered_is =
-        rw (k.known p.child, k.known p.parent, k.rise p.child)
-        (either (pairs es st.pairs p)
-        (λ t. rw (t, k.load p.parent (both _ _ (both _ _ t).1).1))
-        (λ t. rw t))
+  -- a pair that is refused with 16, by the first test that it fails
+  pub pair_unlike : ltb p.child p.parent ≡ false → pair_judged es st (PairRecord p) 0 ≡ stopped 16 st
+  pair_unlike e = refused (rw (tests, e))
 
-    -- behind a pair that is taken
-    module _ (t : PairTaken es st.pairs p) where
+  pub pair_falls : p.child < c.lowest → pair_judged es st (PairRecord p) 0 ≡ stopped 16 st
+  pair_falls h = refused (rw (tests, lt-leb c.lowest p.child h) (ap (λ (b : Bool). b && (is_some (found cs p.child) && is_some (found cs p.parent))) (and_false (ltb p.child p.parent) refl)))
+
+  pub pair_childless : is_some (found cs p.child) ≡ false → pair_judged es st (PairRecord p) 0 ≡ stopped 16 st
+  pair_childless e = refused (rw (tests, e) (and_false (ltb p.child p.parent && leb c.lowest p.child) refl))
+
+  pub pair_orphaned : is_some (found cs p.parent) ≡ false → pair_judged es st (PairRecord p) 0 ≡ stopped 16 st
+  pair_orphaned e =
+      refused (rw (tests, e) (and_false (ltb p.child p.parent && leb c.lowest p.child) (and_false (is_some (found cs p.child)) refl)))
+
+  -- a pair of two components that keeps the rules of pairs
+  module _ (at : ℕ) (d : State) (larger : p.child < p.parent) (rise : c.lowest ≤ p.child) (child : is_some (found cs p.child) ≡ true) (here : found cs p.parent ≡ Some at) where
+    load_is : (get_or cs at d).tasks ≡ own_tasks es p.parent + named st.pairs p.parent
+    load_is = w.load p.parent at d here
+
+    right : pairs es st.pairs p ≡ true
+    right = tests ∙ rw (lt-ltb p.child p.parent larger, le-leb c.lowest p.child rise, child, here)
+
+    -- its parent is full
+    pub pair_full : 64 ≤ (get_or cs at d).tasks → pair_judged es st (PairRecord p) 0 ≡ stopped 6 st
+    unfolding pair_judged pair_refusal
+    pair_full h = rw (right, ← load_is, le-leb 64 (get_or cs at d).tasks h)
+
+    -- it is taken, and its parent holds one more
+    module _ (room : (get_or cs at d).tasks < 64) (now : State) (same : now.lowest ≡ (get_or cs at d).lowest) (more : now.tasks ≡ (get_or cs at d).tasks + 1) where
+      taken : pair_judged es st (PairRecord p) 0 ≡ after_pair st p
+      unfolding pair_judged pair_refusal
+      taken = rw (right, ← load_is, lt-leb 64 (get_or cs at d).tasks room)
+
       rise_behind : (n : ℕ) → leb (p.child + 1) n ≡ rises (st.pairs ++ (p ∷ [])) n
       unfolding rises
       rise_behind n =
-          let low = leb-true c.lowest p.child (k.rise p.child ∙ t.rise) in
           either (leb (p.child + 1) n)
           (λ q. let h = leb-true (p.child + 1) n q in
-          q ∙ sym (rises_append st.pairs (p ∷ []) n ∙ and_true (sym (k.rise n) ∙ le-leb c.lowest n (omega arith)) (and_true (lt-ltb p.child n (omega arith)) refl)))
+          q ∙ sym (rises_append st.pairs (p ∷ []) n ∙ and_true (sym (w.rise n) ∙ le-leb c.lowest n (omega arith)) (and_true (lt-ltb p.child n (omega arith)) refl)))
           (λ q. let h = leb-false (p.child + 1) n q in
           q ∙ sym (rises_append st.pairs (p ∷ []) n ∙ and_false (rises st.pairs n) (ap (λ (b : Bool). b && true) (le-ltb p.child n (omega arith)))))
 
-      load_behind : count ≤ 256 → (n : ℕ) → registered es n ≡ true
-          → get_or (set loads at (get_or loads at 0 + 1)) (sought lowest count n) 0 ≡ own_tasks es n + named (st.pairs ++ (p ∷ [])) n
-      load_behind few n e =
-          let own = k.load n e in
-          let long = k.long in
-          let more = named_append st.pairs (p ∷ []) n in
-          let within = sought_within lowest p.parent count in
+      load_behind : (n k : ℕ) (o : State) → found (set cs at now) n ≡ Some k → (get_or (set cs at now) k o).tasks ≡ own_tasks es n + named (st.pairs ++ (p ∷ [])) n
+      load_behind n k o e =
+          let stays : found cs n ≡ Some k = sym (found_set cs n at d now same) ∙ e in
+          let within = found_within cs p.parent at d here in
+          let all = named_append st.pairs (p ∷ []) n in
           either (eqb p.parent n)
           (λ q.
           let one = named_one p n true q in
-          let same : at ≡ sought lowest count n = ap (sought lowest count) (eqb-true p.parent n q) in
-          rw same (get_or-set_same loads (sought lowest count n) (get_or loads (sought lowest count n) 0 + 1) 0 (omega arith) ∙ omega arith))
+          let own : found cs p.parent ≡ Some k = ap (found cs) (eqb-true p.parent n q) ∙ stays in
+          let place : at ≡ k = cc in
+          let load = load_is in
+          let parent : own_tasks es p.parent + named st.pairs p.parent ≡ own_tasks es n + named st.pairs n = ap (λ (m : ℕ). own_tasks es m + named st.pairs m) (eqb-true p.parent n q) in
+          rw (← place, get_or-set_same cs at now o within) (omega (arith, more)))
           (λ q.
           let one = named_one p n false q in
-          get_or-set_other loads _ _ _ 0 (λ f. eqb-false p.parent n q (sym (sought_own lowest count n p.parent (ltb-true 0 _ (k.known n ∙ e)) f))) ∙ omega arith)
+          let other : k ≡ at → ⊥ = λ f. eqb-false p.parent n q (found_once cs p.parent n k o (rw f here) stays) in
+          let load = w.load n k o stays in
+          rw (get_or-set_other cs at k now o other) (omega arith))
 
-      pub kept_pair : count ≤ 256 → Kept lowest (set loads at (get_or loads at 0 + 1)) count es (behind_pair c p) (after_pair st p)
-      unfolding behind_pair after_pair size_of
-      kept_pair few =
-          record {
+      pub pair_kept : Kept (set cs at now) es (record { place = c.place + 8; lowest = p.child + 1 }) (pair_judged es st (PairRecord p) 0)
+      unfolding after_pair size_of
+      pair_kept =
+          rw taken
+          (record {
             going = refl;
-            refused = refl;
-            place = ap (λ (x : ℕ). x + 8) k.place;
-            counted = k.counted;
-            long = length-set loads at (get_or loads at 0 + 1) ∙ k.long;
-            known = k.known;
+            place = ap (λ (x : ℕ). x + 8) w.place;
+            counted = w.counted ∙ sym (length-set cs at now);
+            known = λ n. rw (found_set cs n at d now same) (w.known n);
             rise = rise_behind;
-            load = load_behind few;
-          }
-
-    -- the same as the code meets it, by the places and the answer that it found
-    module _ (child parent n : ℕ) (a : child ≡ sought lowest count p.child) (b : parent ≡ at) (e : n ≡ answered c.lowest child parent (get_or loads parent 0) p) (next : Course) (left : ℕ) where
-      refusal_is : n ≡ pair_refusal es st.pairs p
-      refusal_is = rw (a, b) at e ∙ answered_is
-
-      pub pair_refused : (n ≡ 0 → ⊥) → next ≡ halted n c → Kept lowest loads count es next (pair_judged es st (PairRecord p) left)
-      unfolding pair_judged
-      pair_refused h f = rw (f, ← refusal_is, ne_eqb n 0 h) (kept_halted n)
-
-      pub pair_added : n ≡ 0 → next ≡ behind_pair c p → count ≤ 256 → Kept lowest (set loads parent (get_or loads parent 0 + 1)) count es next (pair_judged es st (PairRecord p) left)
-      unfolding pair_judged
-      pair_added z f few = rw (f, b, ← refusal_is, z) (kept_pair (pair_taken es st.pairs p (sym refusal_is ∙ z)) few)
-
--- a parent that can take one child more is not full
-pub answered_room : (lowest child parent load : ℕ) (p : Pair) → 0 ≡ answered lowest child parent load p → load < 64
-unfolding answered
-answered_room lowest child parent load p =
-    cases Room ((ltb p.child p.parent && leb lowest p.child) && (ltb 0 child && ltb 0 parent))
-    (λ t. cases Room (leb 64 load) (λ q e. absurd (omega (arith, e))) (λ q e. leb-false 64 load q))
-    (λ t e. absurd (omega (arith, e)))
-  where
-    Room : ℕ → Type 0
-    Room n = 0 ≡ n → load < 64
+            load = load_behind;
+          })
 
 -- one step, as the code takes it: what it lends is what is left from the walk's place on
-pub kept_step : (s lowest loads after : List ℕ) (count : ℕ) (es : List Entry) (c next : Course) (st : Pairing) (r : Record) → Kept lowest loads count es c st
+pub step_is : (s : List ℕ) (cs : List State) (es : List Entry) (c : Course) (st : Pairing) (r : Record) → Kept cs es c st
     → r ≡ record_of (take (length s - c.place) (drop c.place s))
-    → Kept lowest after count es next (pair_judged es st r (length (take (length s - c.place) (drop c.place s))))
-    → Kept lowest after count es next (pair_step es s st)
+    → pair_judged es st r (length (take (length s - c.place) (drop c.place s))) ≡ pair_step es s st
 unfolding pair_step
-kept_step s lowest loads after count es c next st r k e w =
-    let i = rest_is s c.place in
-    rw (e, i, length-drop c.place s, k.place) at w
+step_is s cs es c st r k e = let i = rest_is s c.place in rw (e, i, length-drop c.place s, k.place)

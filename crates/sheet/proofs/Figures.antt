@@ -10,12 +10,11 @@ use Rattle.budget.specs.Task.{task_refusal, valid_task}
 use Rattle.record.specs.declared.layout.Pair.{Pair}
 use Rattle.record.specs.Field.{encode, field}
 use Rattle.record.specs.Layout.{head_bytes, task_bytes_by, task_bytes, pair_bytes, end_bytes, head_size, task_size, size_of, row_of, record_with, of_kind, record_of}
-use Rattle.sheet.specs.declared.check.Checked.{Checked}
 use Rattle.sheet.specs.Judging.{start, refuse, ended, opened, head_refusal, form_refusal, standing_refusal, record_refusal, after_head, after_task, after, judged}
 use Rattle.sheet.specs.Walk.{step, walk, held}
 use Rattle.sheet.specs.Register.{walked, held_of, entry_of, entries_from, register_of}
 use Rattle.sheet.specs.Pairs.{registered, own_tasks, named, rises, pairs, pair_refusal, ending_refusal, stopped, after_pair, pair_judged, pair_step, pair_walk, paired_from, paired}
-use Rattle.sheet.specs.Check.{checked_of, check, pairs_of}
+use Rattle.sheet.specs.Check.{Checked, checked_of, check, pairs_of}
 use Rattle.sheet.specs.Contents.{edge_of}
 
 abbrev answer : ℕ → ℕ → ℕ → Checked

@@ -10,8 +10,7 @@ use borrow.Author.Tests.{le-leb, ltb-false}
 use Rattle.record.specs.Record.{Record, ComponentRecord, TaskRecord, PairRecord, EndRecord, NoRecord}
 use Rattle.record.specs.Layout.{record_of}
 use Rattle.record.proofs.Cases.{cases}
-use Rattle.sheet.specs.declared.judging.State.{State}
-use Rattle.sheet.specs.Judging.{most_bytes, start, refuse, ended, opened, record_refusal, after_head, after_task, after, judged}
+use Rattle.sheet.specs.Judging.{State, most_bytes, start, refuse, ended, opened, record_refusal, after_head, after_task, after, judged}
 use Rattle.sheet.specs.Walk.{step, walk}
 use Rattle.sheet.specs.Register.{walked, held_of, noted_from, noted}
 use Rattle.sheet.proofs.JudgingLaws.{orderly, opens}

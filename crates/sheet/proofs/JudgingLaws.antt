@@ -7,16 +7,18 @@ use lib.Dec.{leb, ltb, eqb}
 use borrow.Author.Tests.{ne_eqb, leb-false, ltb-false, eqb-true, eqb-false}
 use Rattle.budget.specs.declared.component.Capacity.{Capacity}
 use Rattle.budget.specs.declared.component.Capacity.TheVariants.{Stated, Asked}
+use Rattle.budget.specs.declared.refusal.Refusal.{Refusal}
 use Rattle.budget.specs.declared.task.Task.{Task}
 use Rattle.budget.specs.Component.{units_of}
 use Rattle.budget.specs.Interface.{interface, interface_refusal}
+use Rattle.budget.specs.Refusal.{number_of}
 use Rattle.budget.specs.Task.{J, task_refusal}
+use Rattle.budget.proofs.Refusals.{some}
 use Rattle.record.specs.declared.layout.Head.{Head}
 use Rattle.record.specs.Record.{Record, ComponentRecord, TaskRecord, PairRecord, EndRecord, NoRecord}
 use Rattle.record.specs.Layout.{head_size, task_size, size_of}
 use Rattle.record.proofs.Cases.{cases}
-use Rattle.sheet.specs.declared.judging.State.{State}
-use Rattle.sheet.specs.Judging.{most_bytes, start, refuse, ended, opened, head_refusal, form_refusal, standing_refusal, record_refusal, after_head, after_task, after, judged}
+use Rattle.sheet.specs.Judging.{State, most_bytes, start, refuse, ended, opened, head_refusal, form_refusal, standing_refusal, record_refusal, after_head, after_task, after, judged}
 use Rattle.sheet.specs.Walk.{Onward, Orderly}
 
 -- a component record is not empty
@@ -68,22 +70,14 @@ task_taken st k stated =
     above s l = let z = eqb-false (J k) 0 (rw s at l) in omega arith
 
 -- one record, as the code judges it
-module _ (st : State) (r : Record) (n : ℕ) (e : n ≡ record_refusal st r) where
-  pub judged_refused : (n ≡ 0 → ⊥) → (next : State) → next ≡ refuse n st → next ≡ judged st r
+module _ (st : State) (r : Record) where
+  pub judged_refused : (n : Refusal) → number_of n ≡ record_refusal st r → refuse (number_of n) st ≡ judged st r
   unfolding judged
-  judged_refused h next f = rw (← e, ne_eqb n 0 h) f
+  judged_refused n e = rw (← e, ne_eqb _ 0 (some n))
 
-  pub judged_taken : n ≡ 0 → (kind : Record) → r ≡ kind → (next : State) → next ≡ after st kind → next ≡ judged st r
+  pub judged_taken : 0 ≡ record_refusal st r → after st r ≡ judged st r
   unfolding judged
-  judged_taken h kind k next f = rw (← e, h) (f ∙ ap (after st) (sym k))
-
-  pub head_fits : n ≡ 0 → (h : Head) → r ≡ ComponentRecord h → st.place + size_of r ≤ 65_536 → (st.place + size_of (ComponentRecord h) ≤ 65_536) × (st.count < 256)
-  unfolding record_refusal
-  head_fits z h k w = (rw k at w, (head_taken st h (sym (ap (record_refusal st) k) ∙ (sym e ∙ z))).few)
-
-  pub task_fits : n ≡ 0 → (k : Task) (stated : Bool) → r ≡ TaskRecord stated k → st.place + size_of r ≤ 65_536 → (st.place + size_of (TaskRecord stated k) ≤ 65_536) × (st.tasks < 64)
-  unfolding record_refusal
-  task_fits z k stated q w = (rw q at w, (task_taken st k stated (sym (ap (record_refusal st) q) ∙ (sym e ∙ z))).few)
+  judged_taken e = rw (← e)
 
 -- ---- the judging is orderly
 

@@ -1,4 +1,5 @@
 pub mod Figures
+pub mod Mapped
 pub mod JudgingLaws
 pub mod WalkLaws
 pub mod HeldLaws

@@ -9,7 +9,7 @@ use lib.Seq.{ext_get_or, get_or-set_same, get_or-set_other}
 use lib.Dec.{leb, ltb}
 use borrow.Author.Tests.{leb-true, leb-false, ltb-true, ltb-false}
 use Rattle.record.proofs.Cases.{cases, either}
-use Rattle.sheet.specs.declared.judging.State.{State}
+use Rattle.sheet.specs.Judging.{State}
 use Rattle.sheet.specs.Register.{walked, held_of, noted}
 use Rattle.sheet.proofs.HeldLaws.{noted_long, noted_at, last_held}
 

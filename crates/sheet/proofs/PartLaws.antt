@@ -1,19 +1,22 @@
 -- Where a component's records lie: between two edges of an accepted sheet.
 use Prim.Native.Nat.{ℕ, ◌+◌, ◌-◌, ◌≤◌, ◌<◌, zero-le}
-use mathlib.Core.Path.{◌≡◌, ap, ◌∙◌}
+use mathlib.Core.Path.{◌≡◌, sym, ap, ◌∙◌}
 use mathlib.Core.List.{List}
 use native.Mathlib.Omega.{arith}
 use lib.ListN.{length, get_or, take, drop}
 use lib.Dec.{ltb, eqb}
-use borrow.Author.Tests.{lt-ltb, ne_eqb, ltb-true, eqb-false}
+use borrow.Author.Tests.{lt-ltb, le-ltb, ltb-true, eqb-false, ne_eqb}
+use Rattle.std.specs.Prelude.{Result, Ok, Err}
+use Rattle.budget.specs.declared.refusal.Refusal.TheVariants.{Place}
+use Rattle.budget.proofs.Refusals.{some}
 use Rattle.record.proofs.Cases.{cases}
-use Rattle.sheet.specs.declared.check.Checked.{Checked}
-use Rattle.sheet.specs.declared.contents.Contents.{Contents}
-use Rattle.sheet.specs.declared.part.Located.{Located}
+use Rattle.sheet.specs.declared.contents.Contents as contents
+use Rattle.sheet.specs.declared.fault.Fault.{Fault}
 use Rattle.sheet.specs.declared.part.Span.{Span}
-use Rattle.sheet.specs.Check.{check}
-use Rattle.sheet.specs.Contents.{edge_of, contents_of}
-use Rattle.sheet.specs.Part.{chosen, part_check, span_of, located, part_of}
+use Rattle.sheet.specs.Check.{Checked, check}
+use Rattle.sheet.specs.Contents.{Contents, edge_of, contents_of}
+use Rattle.sheet.specs.Part.{Located, chosen, part_check, span_of, located, part_of}
+use Rattle.sheet.specs.Answered.{checked_in, contents_in, located_in}
 use Rattle.sheet.proofs.ContentsLaws.{edge_within, edge_rises, taken, edges_are}
 
 module _ (s : List ℕ) (k : ℕ) where
@@ -35,24 +38,45 @@ module _ (s : List ℕ) (k : ℕ) where
   unfolding part_check chosen
   part_accepted e h = rw (e, lt-ltb k (check s).count h)
 
-  -- what the code finds, from the contents and the choice: nowhere where refused, else between two of the edges answered
-  module _ (f : Contents) (c : Checked) (e : f ≡ contents_of s) (g : c ≡ chosen f.checked k) where
-    choice : c ≡ part_check s k
-    unfolding contents_of part_check
-    choice = g ∙ ap (λ (x : Contents). chosen x.checked k) e
+  -- the part of a component is what lies between its two edges
+  pub span_is : (check s).refusal ≡ 0 → k < (check s).count → span_of s k ≡ record { from = edge_of s k; to = edge_of s (k + 1) }
+  unfolding span_of
+  span_is e h = let p : (part_check s k).refusal ≡ 0 = ap (λ (x : Checked). x.refusal) (part_accepted e h) ∙ e in rw p
 
-    pub place_few : c.refusal ≡ 0 → k < 256
-    place_few h = let w = stands (rw choice at h) in let t = taken s w.accepted in omega (arith, w.below, t.few)
+  -- where refused, the component is nowhere
+  nowhere : (f : Fault) → checked_in (Err f) ≡ part_check s k → located_in (Err f) ≡ located s k
+  unfolding located span_of
+  nowhere f p = rw (← p, ne_eqb _ 0 (some f.refusal))
 
-    pub located_nowhere : (c.refusal ≡ 0 → ⊥) → ◌≡◌ {A = Located} (record { checked = c; span = record { from = 0; to = 0 } }) (located s k)
-    unfolding located span_of
-    located_nowhere h = rw (← choice, ne_eqb c.refusal 0 h)
+  pub located_refused : (f : Fault) → contents_in (Err f) ≡ contents_of s → located_in (Err f) ≡ located s k
+  unfolding contents_of part_check chosen
+  located_refused f e = let c : checked_in (Err f) ≡ check s = ap (λ (x : Contents). x.checked) e in nowhere f (rw (← c, ne_eqb _ 0 (some f.refusal)))
 
-    pub located_found : c.refusal ≡ 0 → ◌≡◌ {A = Located} (record { checked = c; span = record { from = get_or f.edges k 0; to = get_or f.edges (k + 1) 0 } }) (located s k)
-    unfolding located span_of
+  -- what the code finds of a sheet that it takes: nowhere, or between two of the edges answered
+  module _ (c : contents.Contents) (e : contents_in (Ok c) ≡ contents_of s) where
+    checked : checked_in (Ok c.count) ≡ check s
+    unfolding contents_of
+    checked = ap (λ (x : Contents). x.checked) e
+
+    accepted : (check s).refusal ≡ 0
+    accepted = sym (ap (λ (x : Checked). x.refusal) checked)
+
+    counted : c.count ≡ (check s).count
+    counted = ap (λ (x : Checked). x.count) checked
+
+    pub few : c.count ≤ 256
+    few = let t = taken s accepted in omega (arith, counted, t.few)
+
+    pub located_nowhere : c.count ≤ k → located_in (Err (record { refusal = Place; place = 0 })) ≡ located s k
+    unfolding part_check chosen
+    located_nowhere h = nowhere (record { refusal = Place; place = 0 }) (rw (← checked, le-ltb k c.count h))
+
+    pub located_found : k < c.count → located_in (Ok (record { count = c.count; span = record { from = get_or c.edges k 0; to = get_or c.edges (k + 1) 0 } })) ≡ located s k
+    unfolding located
     located_found h =
-        let w = stands (rw choice at h) in
-        rw (← choice, h, e, edges_are s w.accepted k (omega (arith, w.below)), edges_are s w.accepted (k + 1) (omega (arith, w.below)))
+        let below : k < (check s).count = omega (arith, counted) in
+        let edge : (n : ℕ) → n ≤ (check s).count → get_or c.edges n 0 ≡ edge_of s n = λ n l. ap (λ (x : Contents). get_or x.edges n 0) e ∙ edges_are s accepted n l in
+        rw (part_accepted accepted below, span_is accepted below, checked, edge k (omega arith), edge (k + 1) (omega arith))
 
   -- the span lies within the sheet, its end not before its beginning
   pub span_order : (span_of s k).from ≤ (span_of s k).to
@@ -62,11 +86,6 @@ module _ (s : List ℕ) (k : ℕ) where
   pub span_within : (span_of s k).to ≤ length s
   unfolding span_of
   span_within = cases (λ (x : Span). x.to ≤ length s) (eqb (part_check s k).refusal 0) (λ p. edge_within s (k + 1)) (λ p. zero-le)
-
-  -- the part of a component is what lies between its two edges
-  pub span_is : (check s).refusal ≡ 0 → k < (check s).count → span_of s k ≡ record { from = edge_of s k; to = edge_of s (k + 1) }
-  unfolding span_of
-  span_is e h = let p : (part_check s k).refusal ≡ 0 = ap (λ (x : Checked). x.refusal) (part_accepted e h) ∙ e in rw p
 
   pub part_between : (check s).refusal ≡ 0 → k < (check s).count
       → part_of s k ≡ take (get_or (contents_of s).edges (k + 1) 0 - get_or (contents_of s).edges k 0) (drop (get_or (contents_of s).edges k 0) s)

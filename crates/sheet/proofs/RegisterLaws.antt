@@ -1,55 +1,120 @@
--- The components as the walk over the pairs is given them: what the first walk noted of each is its entry, so that walk's answer is the sheet's.
+-- The components as the walk over the pairs is given them: what the first walk holds of each is its entry, so that walk's answer is the sheet's.
 use Prim.Native.Nat.{ℕ, zero, suc, ◌+◌, ◌≤◌, ◌<◌}
-use mathlib.Core.Path.{◌≡◌, refl}
-use mathlib.Core.List.{List}
+use mathlib.Core.Path.{◌≡◌, refl, sym, ap, ◌∙◌}
+use mathlib.Core.Bool.{cond}
+use mathlib.Core.List.{List, map}
 use native.Mathlib.Omega.{arith}
-use lib.ListN.{get_or}
+use lib.Dec.{eqb}
+use lib.ListN.{length, get_or, take, drop}
+use lib.Seq.{drop-cons}
 use borrow.Author.Tests.{ne_eqb}
-use Rattle.sheet.specs.declared.judging.State.{State}
-use Rattle.sheet.specs.declared.pairs.Ends.{Ends}
+use Rattle.std.specs.Prelude.{Result, Ok, Err}
+use Rattle.std.proofs.lemmas.List.{get_or-drop, get_or-take, get_or-map, length-map, length-take}
+use Rattle.budget.proofs.Refusals.{some}
+use Rattle.sheet.specs.declared.contents.Contents as contents
+use Rattle.sheet.specs.declared.fault.Fault.{Fault}
+use Rattle.sheet.specs.declared.judging.State as judging
 use Rattle.sheet.specs.declared.walk.Walked.{Walked}
+use Rattle.sheet.specs.Judging.{State, refuse, ended}
 use Rattle.sheet.specs.Register.{walked, held_of, entry_of, entries_from, register_of}
-use Rattle.sheet.specs.Pairs.{paired_from, paired}
-use Rattle.sheet.specs.Check.{checked_of, check}
-use Rattle.sheet.specs.inner.Noted.{lowest_of, tasks_noted, walked_of}
-use Rattle.sheet.specs.inner.PairCourse.{entries_noted, entries_in, Walkable, ends_of}
-use Rattle.sheet.proofs.HeldLaws.{noted_held, walked_few, walked_within, unrefused_short, count_held, numbered_held}
+use Rattle.sheet.specs.Pairs.{Pairing, paired_from, paired}
+use Rattle.sheet.specs.Check.{Checked, checked_of, check}
+use Rattle.sheet.specs.Contents.{edges_of, no_edges, contents_of}
+use Rattle.sheet.specs.Answered.{checked_in, contents_in}
+use Rattle.sheet.specs.inner.Noted.{lowest_of, tasks_noted, Found, Refused}
+use Rattle.sheet.specs.inner.PairCourse.{entries_in, Walkable, Ends}
+use Rattle.sheet.proofs.HeldLaws.{noted_held, noted_long, walked_few, walked_within, unrefused_short, count_held, numbered_held}
 
-module _ (s : List ℕ) where
-  lowest_at : (k : ℕ) → k < (walked s).count → get_or (lowest_of s) (suc k) 0 ≡ (held_of s (suc k)).lowest
-  unfolding lowest_of
-  lowest_at k h = noted_held (λ (st : State). st.lowest) s (suc k) (omega (arith, walked_few s)) (omega arith)
+-- a refused sheet
+module _ (s : List ℕ) (f : Fault) where
+  pub refused_answer : Refused s f → checked_in (Err f) ≡ check s
+  unfolding check checked_of
+  refused_answer r = rw (r.number, r.place, ne_eqb _ 0 (some f.refusal))
 
-  tasks_at : (k : ℕ) → k < (walked s).count → get_or (tasks_noted s) (suc k) 0 ≡ (held_of s (suc k)).tasks
-  unfolding tasks_noted
-  tasks_at k h = noted_held (λ (st : State). st.tasks) s (suc k) (omega (arith, walked_few s)) (omega arith)
+  pub refused_contents : checked_in (Err f) ≡ check s → contents_in (Err f) ≡ contents_of s
+  unfolding contents_of
+  refused_contents e = rw (← e, ne_eqb _ 0 (some f.refusal))
 
-  entries_are : (n k : ℕ) → k + n ≤ (walked s).count → entries_noted (lowest_of s) (tasks_noted s) n k ≡ entries_from s n k
-  unfolding entries_noted entries_from entry_of
+pub taken_contents : (s : List ℕ) (c : contents.Contents) → checked_in (Ok c.count) ≡ check s → c.edges ≡ edges_of s → contents_in (Ok c) ≡ contents_of s
+unfolding contents_of
+taken_contents s c e f = rw (← e, f)
+
+module _ (s : List ℕ) (w : Walked) (f : Found s w) where
+  counted : (walked s).count ≡ w.state.count
+  unfolding ended refuse
+  counted = ap (λ (x : State). x.count) f.ends
+
+  placed : (walked s).place ≡ w.state.place
+  unfolding ended refuse
+  placed = ap (λ (x : State). x.place) f.ends
+
+  unrefused : (walked s).refusal ≡ 0
+  unfolding ended refuse
+  unrefused = ap (λ (x : State). x.refusal) f.ends
+
+  pub few : w.state.count ≤ 256
+  few = let h = walked_few s in let e = counted in omega arith
+
+  pub long : length w.held ≡ 257
+  unfolding edges_of
+  long = sym (length-map w.held (λ (x : judging.State). x.place)) ∙ (ap length f.edges ∙ noted_long (λ (x : State). x.place) s)
+
+  module _ (k : ℕ) (d : judging.State) (h : k < (walked s).count) where
+    inside : suc k < length w.held
+    inside = omega (arith, walked_few s, long)
+
+    lowest_at : (get_or w.held (suc k) d).lowest ≡ (held_of s (suc k)).lowest
+    unfolding lowest_of
+    lowest_at =
+        sym (get_or-map (λ (x : judging.State). x.lowest) w.held (suc k) d 0 inside)
+        ∙ (ap (λ (l : List ℕ). get_or l (suc k) 0) f.lowest ∙ noted_held (λ (x : State). x.lowest) s (suc k) (omega (arith, walked_few s)) (omega arith))
+
+    tasks_at : (get_or w.held (suc k) d).tasks ≡ (held_of s (suc k)).tasks
+    unfolding tasks_noted
+    tasks_at =
+        sym (get_or-map (λ (x : judging.State). x.tasks) w.held (suc k) d 0 inside)
+        ∙ (ap (λ (l : List ℕ). get_or l (suc k) 0) f.tasks ∙ noted_held (λ (x : State). x.tasks) s (suc k) (omega (arith, walked_few s)) (omega arith))
+
+  entries_are : (n k : ℕ) → k + n ≤ (walked s).count → entries_in (take n (drop (suc k) w.held)) ≡ entries_from s n k
+  unfolding entries_from entry_of
   entries_are zero k h = refl
-  entries_are (suc n) k h = rw (lowest_at k (omega arith), tasks_at k (omega arith), entries_are n (suc k) (omega arith))
+  entries_are (suc n) k h =
+      rw (drop-cons w.held (suc k) w.state (inside k w.state (omega arith)), lowest_at k w.state (omega arith), tasks_at k w.state (omega arith), entries_are n (suc k) (omega arith))
 
-  register_is : entries_in (lowest_of s) (tasks_noted s) (walked s).count ≡ register_of s
-  unfolding entries_in register_of
-  register_is = entries_are (walked s).count 0 (omega arith)
+  -- what the walk over the pairs is lent: as many states as components, behind the first
+  module _ (n : ℕ) (e : n ≡ w.state.count) where
+    abbrev lent : List judging.State
+    lent = take n (drop 1 w.held)
 
-  -- a component's number is noted as one more
-  above : (k : ℕ) → k < (walked s).count → 0 < get_or (lowest_of s) (suc k) 0
-  above k h = rw (lowest_at k h) (numbered_held s (suc k) (omega (arith, count_held s (suc k) (omega arith))))
+    register_is : entries_in lent ≡ register_of s
+    unfolding register_of
+    register_is = let c = counted in rw counted (rw (← e) (entries_are n 0 (omega arith)))
 
-  -- what the code answers, from what the first walk found
-  module _ (found : Walked) (e : found ≡ walked_of s) where
-    pub walkable : found.state.refusal ≡ 0 → Walkable s found.lowest found.state.count found.state.place
-    unfolding walked_of
-    walkable z =
-        let u : (walked s).refusal ≡ 0 = rw e at z in
-        rw e (record { within = walked_within s; short = unrefused_short s u; few = walked_few s; noted = above })
+    pub walkable : Walkable s lent w.state.place
+    walkable =
+        record {
+          within = rw (← placed) (walked_within s);
+          short = unrefused_short s unrefused;
+          numbered = λ k d h.
+              let l = length-take n (drop 1 w.held) in
+              let i : k < (walked s).count = omega (arith, counted) in
+              let j : 1 + k ≡ suc k = omega arith in
+              let at : get_or lent k d ≡ get_or w.held (suc k) d =
+              get_or-take n (drop 1 w.held) k d (omega arith) ∙ (get_or-drop 1 w.held k d ∙ ap (λ (m : ℕ). get_or w.held m d) j) in
+              rw (at, lowest_at k d i) (numbered_held s (suc k) (omega (arith, count_held s (suc k) (omega arith))));
+        }
 
-    pub refused_answer : (found.state.refusal ≡ 0 → ⊥) → checked_of found.state.refusal found.state.place 0 ≡ check s
-    unfolding walked_of check
-    refused_answer h = let n : (walked s).refusal ≡ 0 → ⊥ = rw e at h in rw (e, ne_eqb (walked s).refusal 0 n)
+    paired_is : paired_from (entries_in lent) s w.state.place ≡ paired s
+    unfolding paired
+    paired_is = rw (register_is, placed)
 
-    pub paired_answer : found.state.refusal ≡ 0 → (ends : Ends) → ends ≡ ends_of (paired_from (entries_in found.lowest found.tasks found.state.count) s found.state.place)
-        → checked_of ends.refusal ends.place found.state.count ≡ check s
-    unfolding walked_of check paired
-    paired_answer z ends f = let u : (walked s).refusal ≡ 0 = rw e at z in rw (f, e, register_is, u)
+    pub paired_answer : Ends (Ok tt) (paired_from (entries_in lent) s w.state.place) → checked_in (Ok w.state.count) ≡ check s
+    unfolding check checked_of
+    paired_answer z = let p : (paired s).refusal ≡ 0 = rw paired_is at z in rw (unrefused, p, counted)
+
+    pub paired_refused : (r : Fault) → Ends (Err r) (paired_from (entries_in lent) s w.state.place) → checked_in (Err r) ≡ check s
+    unfolding check checked_of
+    paired_refused r z =
+        let p = rw paired_is at z.0 in
+        let q = rw paired_is at z.1 in
+        rw (unrefused, p, q, ne_eqb _ 0 (some r.refusal))

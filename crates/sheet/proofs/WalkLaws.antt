@@ -13,7 +13,7 @@ use Rattle.record.specs.Record.{Record}
 use Rattle.record.specs.Layout.{size_of, record_of}
 use Rattle.record.proofs.Cases.{cases, either}
 use Rattle.record.proofs.RecordLaws.{size_within}
-use Rattle.sheet.specs.declared.judging.State.{State}
+use Rattle.sheet.specs.Judging.{State}
 use Rattle.sheet.specs.Walk.{Judging, step, walk, held, Onward, Orderly}
 
 -- what is left of a sheet from a place on, as the code lends it

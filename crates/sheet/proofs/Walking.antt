@@ -1,20 +1,29 @@
 -- The loop of the walk: behind each step the walk still to come is the same, and what was passed is noted.
 use Prim.Native.Nat.{ℕ, zero, suc, ◌-◌, ◌≤◌, ◌<◌}
 use mathlib.Core.Path.{◌≡◌, refl, sym, ap, ◌∙◌}
-use mathlib.Core.Bool.{Bool, true, false}
-use mathlib.Core.List.{List}
+use mathlib.Core.Bool.{true, false}
+use mathlib.Core.List.{List, map, ◌∷◌}
 use native.Mathlib.Omega.{arith}
 use lib.ListN.{length, set, replicate}
-use Rattle.sheet.specs.declared.judging.State.{State}
-use Rattle.sheet.specs.declared.walk.Walked.{Walked}
-use Rattle.sheet.specs.Judging.{most_bytes, opened, judged}
+use Rattle.std.specs.Prelude.{Option, Some, None, Result, Ok, Err}
+use Rattle.std.proofs.lemmas.List.{map-set}
+use Rattle.budget.specs.declared.refusal.Refusal.{Refusal}
+use Rattle.budget.specs.Refusal.{number_of}
+use Rattle.sheet.specs.declared.fault.Fault.{Fault}
+use Rattle.sheet.specs.declared.judging.State as judging
+use Rattle.sheet.specs.Judging.{State, most_bytes, refuse, ended, opened, judged}
 use Rattle.sheet.specs.Walk.{step, walk, held, Onward}
-use Rattle.sheet.specs.Register.{walked, held_of}
+use Rattle.sheet.specs.Register.{walked, held_of, noted as all_noted}
 use Rattle.sheet.specs.Contents.{edges_of}
-use Rattle.sheet.specs.inner.Noted.{lowest_of, tasks_noted, walked_of}
+use Rattle.sheet.specs.Answered.{state_in, opened_in, step_in}
+use Rattle.sheet.specs.inner.Noted.{lowest_of, tasks_noted, Found, Refused}
 use Rattle.sheet.proofs.JudgingLaws.{orderly, Begins, opens}
 use Rattle.sheet.proofs.Noting.{Noting, noting_begun, noting_again, noting_over}
 use Rattle.sheet.proofs.WalkLaws.{walk_on, walk_stopped, held_on, held_here, step_advances}
+
+-- a number of each state held
+abbrev pub column : (State → ℕ) → List judging.State → List ℕ
+column f sts = map (λ (st : judging.State). f (state_in st)) sts
 
 -- the numbers of a state that are noted
 abbrev places : State → ℕ
@@ -27,92 +36,117 @@ abbrev counts : State → ℕ
 counts st = st.tasks
 
 -- where the loop stands after some steps: what is still to come gives the answer
-pub record Walking (s edges lowest tasks : List ℕ) (st : State) (going : Bool) : Type 0 where
+pub record Walking (s : List ℕ) (sts : List judging.State) (st : judging.State) : Type 0 where
   pub more : ℕ
-  pub state : walked s ≡ walk judged more s st
-  pub ahead : (k : ℕ) → st.count ≤ k → held_of s k ≡ held judged more s k st
-  pub noted_edges : Noting places s edges st
-  pub noted_lowest : Noting lowests s lowest st
-  pub noted_tasks : Noting counts s tasks st
-  pub enough : going ≡ true → length s - st.place < more
-  pub flag : st.going ≡ going
+  pub state : walked s ≡ walk judged more s (state_in st)
+  pub ahead : (k : ℕ) → st.count ≤ k → held_of s k ≡ held judged more s k (state_in st)
+  pub noted_edges : Noting places s (column places sts) (state_in st)
+  pub noted_lowest : Noting lowests s (column lowests sts) (state_in st)
+  pub noted_tasks : Noting counts s (column counts sts) (state_in st)
+  pub enough : length s - st.place < more
   pub place : st.place ≤ length s
   pub few : st.count ≤ 256
-  pub short : going ≡ true → length s ≤ most_bytes
-
-turned : (s edges lowest tasks : List ℕ) (st : State) (more : ℕ) (w : Walking s edges lowest tasks st true) → w.more ≡ more → length s - st.place < more
-    → let next = step judged s st in Walking s (set edges next.count next.place) (set lowest next.count next.lowest) (set tasks next.count next.tasks) next next.going
-turned s edges lowest tasks st zero w e h = absurd (omega arith)
-turned s edges lowest tasks st (suc more) w e h =
-    record {
-      more = more;
-      state = w.state ∙ (ap (λ (n : ℕ). walk judged n s st) e ∙ walk_on judged more s st w.flag);
-      ahead = λ k l. from k (omega (arith, a.counts)) ∙ held_on judged more s st k w.flag l;
-      noted_edges = noting_again places s edges st w.noted_edges next (a.few w.few) a.counts a.singly here;
-      noted_lowest = noting_again lowests s lowest st w.noted_lowest next (a.few w.few) a.counts a.singly here;
-      noted_tasks = noting_again counts s tasks st w.noted_tasks next (a.few w.few) a.counts a.singly here;
-      enough = λ g. let l = a.goes g in let i = a.within in omega arith;
-      flag = refl;
-      place = a.within;
-      few = a.few w.few;
-      short = λ g. w.short refl;
-    }
-  where
-    next : State
-    next = step judged s st
-
-    a : Onward (length s) st next
-    a = step_advances judged orderly s st w.place
-
-    from : (k : ℕ) → st.count ≤ k → held_of s k ≡ held judged (suc more) s k st
-    from k l = w.ahead k l ∙ ap (λ (n : ℕ). held judged n s k st) e
-
-    -- one component more: the state before is the last one held with its count
-    here : st.count < next.count → held_of s st.count ≡ st
-    here l = from st.count (omega arith) ∙ held_here judged more s st st.count w.flag l
-
--- how far a walk has to go: nowhere once it has stopped
-abbrev pub left : List ℕ → State → Bool → ℕ
-left s st true = suc (length s - st.place)
-left s st false = 0
-
-less : (s : List ℕ) (st : State) → st.place ≤ length s → (going : Bool) → (step judged s st).going ≡ going → left s (step judged s st) going < left s st true
-less s st h true e = let a = step_advances judged orderly s st h in let l = a.goes e in let i = a.within in omega arith
-less s st h false e = omega arith
+  pub short : length s ≤ most_bytes
 
 module _ (s : List ℕ) where
-  pub begun : (xs : List ℕ) → xs ≡ replicate 257 0 → (st : State) → st ≡ opened (length s) → Walking s xs xs xs st st.going
+  -- before the first record
+  same : (f : State → ℕ) (st : judging.State) (n : ℕ) → f (state_in st) ≡ 0 → column f (replicate n st) ≡ replicate n 0
+  same f st zero z = refl
+  same f st (suc n) z = rw (z, same f st n z)
+
+  pub begun : (st : judging.State) → opened_in (Ok st) ≡ opened (length s) → Walking s (replicate 257 st) st
   unfolding walked held_of
-  begun xs e st f =
-      let b : Begins (length s) st = rw f (opens (length s)) in
+  begun st e =
+      let b : Begins (length s) (state_in st) = rw (← e) at (opens (length s)) in
       record {
         more = suc (length s);
-        state = rw f;
-        ahead = λ k h. rw f;
-        noted_edges = noting_begun places s xs st e b.count b.place;
-        noted_lowest = noting_begun lowests s xs st e b.count b.lowest;
-        noted_tasks = noting_begun counts s xs st e b.count b.tasks;
-        enough = λ g. omega (arith, b.place);
-        flag = refl;
+        state = rw e;
+        ahead = λ k h. rw e;
+        noted_edges = noting_begun places s _ (state_in st) (same places st 257 b.place) b.count b.place;
+        noted_lowest = noting_begun lowests s _ (state_in st) (same lowests st 257 b.lowest) b.count b.lowest;
+        noted_tasks = noting_begun counts s _ (state_in st) (same counts st 257 b.tasks) b.count b.tasks;
+        enough = omega (arith, b.place);
         place = omega (arith, b.place);
         few = omega (arith, b.count);
-        short = b.short;
+        short = b.short refl;
       }
 
-  -- the same laws as the loop meets them, by what its test and its call tell
-  module _ (edges lowest tasks : List ℕ) (st : State) (going : Bool) (w : Walking s edges lowest tasks st going) where
-    pub again : (next : State) → going ≡ true → next ≡ step judged s st
-        → Walking s (set edges next.count next.place) (set lowest next.count next.lowest) (set tasks next.count next.tasks) next next.going
-    again next g e = let v : Walking s edges lowest tasks st true = rw g at w in rw e (turned s edges lowest tasks st v.more v refl (v.enough refl))
+  pub unopened : (f : Fault) → opened_in (Err f) ≡ opened (length s) → Refused s f
+  unfolding walked
+  unopened f e =
+      let stays = walk_stopped judged (suc (length s)) s (opened_in (Err f)) refl in
+      record { number = rw (← e) (ap (λ (x : State). x.refusal) stays); place = rw (← e) (ap (λ (x : State). x.place) stays) }
 
-    pub counted : (next : State) → next ≡ step judged s st → next.count ≤ 256
-    counted next e = rw e ((step_advances judged orderly s st w.place).few w.few)
+  -- behind a step
+  module _ (sts : List judging.State) (st : judging.State) (w : Walking s sts st) where
+    stepping : (more : ℕ) → w.more ≡ more → walked s ≡ walk judged more s (state_in st)
+    stepping more e = w.state ∙ ap (λ (n : ℕ). walk judged n s (state_in st)) e
 
-    pub falls : (next : State) → going ≡ true → next ≡ step judged s st → left s next next.going < left s st going
-    falls next g e = rw (e, g) (less s st w.place (step judged s st).going refl)
+    module _ (next : judging.State) (e : step_in st (Ok (Some next)) ≡ step judged s (state_in st)) where
+      onward : Onward (length s) (state_in st) (state_in next)
+      onward = rw e (step_advances judged orderly s (state_in st) w.place)
 
-    pub over : going ≡ false → ◌≡◌ {A = Walked} (record { state = st; edges = edges; lowest = lowest; tasks = tasks }) (walked_of s)
-    unfolding walked_of edges_of lowest_of tasks_noted
-    over g =
-        let e : st ≡ walked s = sym (w.state ∙ walk_stopped judged w.more s st (w.flag ∙ g)) in
-        rw (← noting_over places s edges st w.noted_edges e, ← noting_over lowests s lowest st w.noted_lowest e, ← noting_over counts s tasks st w.noted_tasks e, ← e)
+      noted : (f : State → ℕ) → Noting f s (column f sts) (state_in st) → (st.count < next.count → held_of s st.count ≡ state_in st)
+          → Noting f s (column f (set sts next.count next)) (state_in next)
+      noted f n here =
+          rw map-set (noting_again f s (column f sts) (state_in st) n (state_in next) (onward.few w.few) onward.counts onward.singly here)
+
+      turned : (more : ℕ) → w.more ≡ more → Walking s (set sts next.count next) next
+      turned zero m = let l = w.enough in absurd (omega arith)
+      turned (suc more) m =
+          record {
+            more = more;
+            state = stepping (suc more) m ∙ (walk_on judged more s (state_in st) refl ∙ ap (walk judged more s) (sym e));
+            ahead = λ k l. from k (omega (arith, onward.counts)) ∙ (held_on judged more s (state_in st) k refl (rw (← e) l) ∙ ap (held judged more s k) (sym e));
+            noted_edges = noted places w.noted_edges here;
+            noted_lowest = noted lowests w.noted_lowest here;
+            noted_tasks = noted counts w.noted_tasks here;
+            enough = let l = w.enough in let g = onward.goes refl in let i = onward.within in omega arith;
+            place = onward.within;
+            few = onward.few w.few;
+            short = w.short;
+          }
+        where
+          from : (k : ℕ) → st.count ≤ k → held_of s k ≡ held judged (suc more) s k (state_in st)
+          from k l = w.ahead k l ∙ ap (λ (n : ℕ). held judged n s k (state_in st)) m
+
+          -- one component more: the state before is the last one held with its count
+          here : st.count < next.count → held_of s st.count ≡ state_in st
+          here l = from st.count (omega arith) ∙ held_here judged more s (state_in st) st.count refl (rw (← e) l)
+
+      pub again : Walking s (set sts next.count next) next
+      again = turned w.more refl
+
+      pub counted : next.count ≤ 256
+      counted = onward.few w.few
+
+      pub falls : length s - next.place < length s - st.place
+      falls = let g = onward.goes refl in let i = onward.within in omega arith
+
+    -- where the walk stops
+    stopping : (last : State) → last ≡ step judged s (state_in st) → last.going ≡ false → (more : ℕ) → w.more ≡ more → walked s ≡ last
+    stopping last e g zero m = let l = w.enough in absurd (omega arith)
+    stopping last e g (suc more) m =
+        stepping (suc more) m ∙ (walk_on judged more s (state_in st) refl ∙ (ap (walk judged more s) (sym e) ∙ walk_stopped judged more s last g))
+
+    noted_last : (f : State → ℕ) → f (ended (state_in st)) ≡ f (state_in st) → Noting f s (column f sts) (state_in st) → walked s ≡ ended (state_in st) → column f sts ≡ all_noted f s
+    unfolding ended refuse
+    noted_last f z n e =
+        noting_over f s (column f sts) (ended (state_in st)) (record { behind = n.behind; here = n.here ∙ sym z; empty = n.empty; places = n.places }) (sym e)
+
+    pub over : step_in st (Ok None) ≡ step judged s (state_in st) → Found s (record { state = st; held = sts })
+    unfolding ended refuse edges_of lowest_of tasks_noted
+    over e =
+        let last = stopping (ended (state_in st)) e refl w.more refl in
+        record {
+          ends = last;
+          edges = noted_last places refl w.noted_edges last;
+          lowest = noted_last lowests refl w.noted_lowest last;
+          tasks = noted_last counts refl w.noted_tasks last;
+        }
+
+    pub refused_here : (r : Refusal) → step_in st (Err r) ≡ step judged s (state_in st) → Refused s (record { refusal = r; place = st.place })
+    unfolding refuse
+    refused_here r e =
+        let last = stopping (refuse (number_of r) (state_in st)) e refl w.more refl in
+        record { number = ap (λ (x : State). x.refusal) last; place = ap (λ (x : State). x.place) last }

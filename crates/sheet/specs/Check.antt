@@ -2,10 +2,15 @@
 use Rattle.std.specs.Prelude.{ℕ, cond, List, [], eqb}
 use Rattle.budget.specs.Refusal as refusal
 use Rattle.record.specs.declared.layout.Pair.{Pair}
-use Rattle.sheet.specs.declared.check.Checked.{Checked}
 pub use Rattle.sheet.specs.Judging.{most_bytes, most_components}
 use Rattle.sheet.specs.Register.{walked}
 use Rattle.sheet.specs.Pairs.{paired}
+
+-- what a sheet is answered: the refusal's number, 0 for none, the byte where the refused record began, and the count of components
+pub record Checked : Type 0 where
+  pub refusal : ℕ
+  pub place : ℕ
+  pub count : ℕ
 
 -- a refusal has its number and place, any other number of a refused answer is 0 (RULES 11)
 unfoldable pub checked_of : ℕ → ℕ → ℕ → Checked

@@ -10,7 +10,6 @@ use Rattle.budget.specs.Task.{J, task_refusal}
 use Rattle.record.specs.declared.layout.Head.{Head}
 use Rattle.record.specs.Record.{Record, ComponentRecord, TaskRecord, PairRecord, EndRecord, NoRecord}
 use Rattle.record.specs.Layout.{size_of}
-use Rattle.sheet.specs.declared.judging.State.{State}
 
 -- the largest sheet (RULES 10)
 abbrev pub most_bytes : ℕ
@@ -18,6 +17,16 @@ most_bytes = 65_536
 
 abbrev pub most_components : ℕ
 most_components = 256
+
+-- where a walk stands: whether it goes on, its refusal, the byte where the next record begins, the components so far, the lowest number that the
+-- next one may have, and the tasks of the last one so far
+pub record State : Type 0 where
+  pub going : Bool
+  pub refusal : ℕ
+  pub place : ℕ
+  pub count : ℕ
+  pub lowest : ℕ
+  pub tasks : ℕ
 
 -- nothing is read so far
 unfoldable pub start : State

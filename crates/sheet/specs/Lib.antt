@@ -5,4 +5,5 @@ pub mod Pairs
 pub mod Check
 pub mod Contents
 pub mod Part
+pub mod Answered
 pub mod inner

@@ -1,10 +1,8 @@
 -- The part of a sheet in which one component stands, counted from 0 among the components (RULES 10, 11).
 use Rattle.std.specs.Prelude.{ℕ, ◌+◌, ◌-◌, cond, List, take, drop, ltb, eqb}
 use Rattle.budget.specs.Refusal as refusal
-use Rattle.sheet.specs.declared.check.Checked.{Checked}
-use Rattle.sheet.specs.declared.part.Located.{Located}
 use Rattle.sheet.specs.declared.part.Span.{Span}
-use Rattle.sheet.specs.Check.{check}
+use Rattle.sheet.specs.Check.{Checked, check}
 use Rattle.sheet.specs.Contents.{edge_of}
 
 -- a sheet that is not refused has a component at each place below its count; any other place is 15
@@ -24,6 +22,11 @@ span_of s k =
     cond (eqb (part_check s k).refusal refusal.none)
     (record { from = edge_of s k; to = edge_of s (k + 1) })
     (record { from = 0; to = 0 })
+
+-- what is answered of a place: that, and where the component lies
+pub record Located : Type 0 where
+  pub checked : Checked
+  pub span : Span
 
 unfoldable pub located : List ℕ → ℕ → Located
 located s k = record { checked = part_check s k; span = span_of s k }

@@ -1,7 +1,6 @@
 -- What the walk over a sheet's components leaves for its pairs: where it ends, and of each component its number and the count of its own tasks.
 use Rattle.std.specs.Prelude.{ℕ, zero, suc, ◌-◌, cond, List, [], ◌∷◌, length, leb}
-use Rattle.sheet.specs.declared.judging.State.{State}
-use Rattle.sheet.specs.Judging.{most_components, opened, judged}
+use Rattle.sheet.specs.Judging.{State, most_components, opened, judged}
 use Rattle.sheet.specs.Walk.{walk, held}
 
 -- where the walk over a sheet's components ends; a record has at least one byte, so there are no more than bytes

@@ -2,8 +2,7 @@
 use Rattle.std.specs.Prelude.{ℕ, zero, suc, ◌+◌, ◌≤◌, ◌<◌, true, false, cond, List, ◌≡◌, drop, leb}
 use Rattle.record.specs.Record.{Record}
 use Rattle.record.specs.Layout.{size_of, record_of}
-use Rattle.sheet.specs.declared.judging.State.{State}
-use Rattle.sheet.specs.Judging.{most_components}
+use Rattle.sheet.specs.Judging.{State, most_components}
 
 -- how a record is judged: the state so far, the record
 abbrev pub Judging : Type 0

@@ -3,6 +3,7 @@
 
 pub mod check;
 pub mod contents;
+pub mod fault;
 pub mod judging;
 pub mod pairs;
 pub mod part;

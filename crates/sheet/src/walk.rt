@@ -1,54 +1,43 @@
 // The walk over a sheet's components and tasks: how it ends, and what it notes of the components that it passes.
 ghost use Rattle.std.specs.Prelude.{◌≡◌, ◌≤◌, length};
+ghost use Rattle.sheet.specs.Answered.{state_in, step_in};
 ghost use Rattle.sheet.specs.Judging.{judged};
 ghost use Rattle.sheet.specs.Walk.{step};
-ghost use Rattle.sheet.specs.inner.Noted.{walked_of};
+ghost use Rattle.sheet.specs.inner.Noted.{Walks};
 
+use crate::fault::Fault;
 use crate::judging::{State, judge, opened};
+use budget::refusal::Refusal;
 use record::layout::record_of;
 
-// How the walk ends, and what it held last with each count of components: its place, the lowest number that may follow, and the tasks
-// of the last component; 0 behind the last count.
+// Where the walk ends, and with each count of components the last state that it held; behind the last count they are as at the start.
 #[derive(Clone, Copy)]
 pub struct Walked {
     pub state: State,
-    pub edges: [usize; 257],
-    pub lowest: [u32; 257],
-    pub tasks: [usize; 257],
+    pub held: [State; 257],
 }
 
-fn step(sheet: &[u8], state: State) -> State
+// The record that begins where the walk stands, against the state so far.
+fn step(sheet: &[u8], state: State) -> Result<Option<State>, Refusal>
     requires { (state.place ≤ length sheet.now) × (length sheet.now ≤ 65_536) }
-    ensures { result ≡ step judged sheet.now state }
+    ensures { step_in state result ≡ step judged sheet.now (state_in state) }
 {
-    let place = state.place;
-    let rest = &sheet[place..];
-    let record = record_of(rest);
+    let record = record_of(&sheet[state.place..])?;
     judge(state, record)
 }
 
-// Walks from the first record on while the judging goes on, and notes what each count of components was held with last.
-pub(crate) fn walk(sheet: &[u8]) -> Walked
-    ensures { result ≡ walked_of sheet.now }
+// Walks from the first record on to the last task, and notes what each count of components was held with last.
+pub(crate) fn walk(sheet: &[u8]) -> Result<Walked, Fault>
+    ensures { Walks sheet.now result }
 {
-    let mut edges = [0usize; 257];
-    let mut lowest = [0u32; 257];
-    let mut tasks = [0usize; 257];
-    let mut state = opened(sheet.len());
-    let mut going = state.going;
-    while going {
-        let next = step(sheet, state);
-        let count = next.count;
-        edges[count] = next.place;
-        lowest[count] = next.lowest;
-        tasks[count] = next.tasks;
+    let mut state = opened(sheet.len())?;
+    let mut held = [state; 257];
+    while let Some(next) = step(sheet, state).map_err(|refusal| Fault {
+        refusal,
+        place: state.place,
+    })? {
+        held[next.count] = next;
         state = next;
-        going = next.going;
     }
-    Walked {
-        state,
-        edges,
-        lowest,
-        tasks,
-    }
+    Ok(Walked { state, held })
 }

@@ -21,7 +21,7 @@ use Rattle.record.specs.declared.layout.Pair.{Pair}
 use Rattle.record.specs.Record.{Record, ComponentRecord, PairRecord, EndRecord}
 use Rattle.record.specs.Layout.{head_bytes, task_bytes, size_of, record_of}
 use Rattle.record.proofs.RoundRecord.{head, head_back, task_back}
-use Rattle.sheet.specs.declared.judging.State.{State}
+use Rattle.sheet.specs.Judging.{State}
 use Rattle.sheet.specs.Judging.{refuse, ended, head_refusal, form_refusal, standing_refusal, record_refusal, after_head, after_task, after, judged}
 use Rattle.sheet.specs.Walk.{step, walk, held}
 use Rattle.sheet.proofs.JudgingLaws.{orderly}

@@ -6,8 +6,8 @@ use native.Mathlib.Omega.{arith}
 use lib.ListN.{length, get_or, take, drop, replicate, length-map, get_or-append, get_or-map}
 use borrow.Author.Tests.{lt-ltb, le-ltb, ne_eqb}
 use Rattle.record.specs.declared.layout.Pair.{Pair}
-use Rattle.sheet.specs.declared.check.Checked.{Checked}
-use Rattle.sheet.specs.declared.contents.Contents.{Contents}
+use Rattle.sheet.specs.Check.{Checked}
+use Rattle.sheet.specs.Contents.{Contents}
 use Rattle.sheet.specs.Check.{check, pairs_of}
 use Rattle.sheet.specs.Contents.{edge_of, contents_of}
 use Rattle.sheet.proofs.ContentsLaws.{taken, edges_are, edges_within}

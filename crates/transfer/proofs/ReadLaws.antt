@@ -12,7 +12,7 @@ use Rattle.budget.specs.Task.{table_of, appended}
 use Rattle.budget.proofs.TableLaws.{append_returned}
 use Rattle.record.specs.Record.{Record, TaskRecord}
 use Rattle.record.specs.Layout.{size_of, record_of}
-use Rattle.sheet.specs.declared.check.Checked.{Checked}
+use Rattle.sheet.specs.Check.{Checked}
 use Rattle.sheet.specs.Check.{check}
 use Rattle.sheet.specs.Contents.{contents_of}
 use Rattle.sheet.specs.Part.{part_check}

@@ -18,7 +18,7 @@ use Rattle.budget.proofs.Valid.{valid_task_lem, valid_interface_lem, both}
 use Rattle.record.specs.declared.layout.Pair.{Pair}
 use Rattle.record.specs.Layout.{head_bytes, task_bytes, end_bytes, size_of, record_of}
 use Rattle.record.proofs.RoundRecord.{head_back, task_back}
-use Rattle.sheet.specs.declared.check.Checked.{Checked}
+use Rattle.sheet.specs.Check.{Checked}
 use Rattle.sheet.specs.Check.{most_bytes, checked_of, check, pairs_of}
 use Rattle.sheet.specs.Pairs.{Nested, paired_from, paired}
 use Rattle.sheet.specs.Part.{part_check, part_of}

@@ -11,7 +11,7 @@ use Rattle.budget.specs.declared.component.Component.{Component}
 use Rattle.budget.specs.Component.{refused}
 use Rattle.budget.specs.Task.{tasks_of}
 use Rattle.record.specs.Layout.{record_of}
-use Rattle.sheet.specs.declared.judging.State.{State}
+use Rattle.sheet.specs.Judging.{State}
 use Rattle.sheet.specs.Judging.{most_bytes, start, refuse, ended, opened}
 use Rattle.sheet.specs.Register.{Entry, walked, held_of, entry_of, entries_from, register_of}
 use Rattle.sheet.specs.Contents.{edge_of}

@@ -18,7 +18,7 @@ use Rattle.budget.proofs.TableLaws.{tasks_of_table}
 use Rattle.budget.proofs.Ranges.{range_in}
 use Rattle.budget.proofs.Valid.{and_true}
 use Rattle.transfer.proofs.ReadRight.{head_right}
-use Rattle.sheet.specs.declared.judging.State.{State}
+use Rattle.sheet.specs.Judging.{State}
 use Rattle.record.specs.declared.layout.Head.{Head}
 use Rattle.record.specs.Record.{Record, ComponentRecord, TaskRecord, PairRecord, EndRecord, NoRecord}
 use Rattle.record.specs.Field.{Bytes}

@@ -13,7 +13,7 @@ use Rattle.record.specs.declared.layout.Pair.{Pair}
 use Rattle.record.specs.Field.{Bytes}
 use Rattle.record.specs.Layout.{end_bytes}
 use Rattle.record.proofs.Cases.{either}
-use Rattle.sheet.specs.declared.check.Checked.{Checked}
+use Rattle.sheet.specs.Check.{Checked}
 use Rattle.sheet.specs.Check.{most_bytes, check, pairs_of}
 use Rattle.sheet.specs.Pairs.{Nested, paired}
 use Rattle.sheet.specs.Part.{chosen, part_check}

@@ -2,7 +2,7 @@
 use Rattle.std.specs.Prelude.{ℕ, List}
 unfoldable pub use Rattle.record.specs.Reply.{reply_bytes}
 use Rattle.record.specs.Writing.{numbers_bytes}
-use Rattle.sheet.specs.declared.check.Checked.{Checked}
+use Rattle.sheet.specs.Check.{Checked}
 
 -- what a sheet was answered: its refusal, the byte where the record began and the count of components
 unfoldable pub checked_bytes : Checked → List ℕ

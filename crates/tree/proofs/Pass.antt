@@ -10,8 +10,8 @@ use lib.Seq.{length-take-le}
 use Rattle.budget.specs.declared.component.Component.{Component}
 use Rattle.budget.specs.Refusal as refusal
 use Rattle.record.specs.declared.layout.Pair.{Pair}
-use Rattle.sheet.specs.declared.check.Checked.{Checked}
-use Rattle.sheet.specs.declared.contents.Contents.{Contents}
+use Rattle.sheet.specs.Check.{Checked}
+use Rattle.sheet.specs.Contents.{Contents}
 use Rattle.sheet.specs.Check.{check, pairs_of}
 use Rattle.sheet.specs.Contents.{contents_of, edge_of}
 use Rattle.sheet.proofs.ContentsLaws.{taken, edges_are, edges_within}

@@ -12,8 +12,8 @@ use Rattle.budget.specs.declared.component.Component.{Component}
 use Rattle.budget.specs.Component.{refused}
 use Rattle.budget.proofs.Valid.{both}
 use Rattle.record.specs.declared.layout.Pair.{Pair}
-use Rattle.sheet.specs.declared.check.Checked.{Checked}
-use Rattle.sheet.specs.declared.contents.Contents.{Contents}
+use Rattle.sheet.specs.Check.{Checked}
+use Rattle.sheet.specs.Contents.{Contents}
 use Rattle.sheet.specs.Check.{check, checked_of, pairs_of}
 use Rattle.sheet.specs.Contents.{contents_of}
 use Rattle.sheet.specs.Pairs.{Nested, paired, rises}

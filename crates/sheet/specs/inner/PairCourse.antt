@@ -1,71 +1,60 @@
--- How the walk over the pairs is kept in numbers: the components by the two columns that the first walk notes, and of the pairs so far only the
--- lowest number that the next child may have and what each parent holds.
-use Rattle.std.specs.Prelude.{ℕ, zero, suc, ◌+◌, ◌-◌, ◌≤◌, ◌<◌, ◌≡◌, true, false, cond, ◌&&◌, List, [], ◌∷◌, length, get_or, leb, ltb, eqb}
-use Rattle.budget.specs.Limits.{most_tasks}
+-- How the walk over the pairs is kept in the code: the components as the first walk held them, each with the children that it has so far among its
+-- tasks, and of the pairs so far only the lowest number that the next child may have.
+use Rattle.std.specs.Prelude.{ℕ, suc, ◌-◌, ◌+◌, ◌≤◌, ◌<◌, ◌≡◌, ◌==◌, true, Option, Some, None, Result, Ok, Err, List, map, length, get_or, leb, position, is_some, ⊤}
+use Rattle.budget.specs.declared.refusal.Refusal.{Refusal}
 use Rattle.budget.specs.Refusal as refusal
-use Rattle.record.specs.declared.layout.Pair.{Pair}
-use Rattle.record.specs.Layout.{size_of}
-use Rattle.record.specs.Record.{PairRecord}
+use Rattle.sheet.specs.declared.fault.Fault.{Fault}
+use Rattle.sheet.specs.declared.judging.State.{State}
 use Rattle.sheet.specs.declared.pairs.Course.{Course}
-use Rattle.sheet.specs.declared.pairs.Ends.{Ends}
 use Rattle.sheet.specs.Judging.{most_bytes, most_components}
 use Rattle.sheet.specs.Register.{Entry}
-use Rattle.sheet.specs.Pairs.{Pairing, registered, own_tasks, named, rises}
+use Rattle.sheet.specs.Pairs.{Pairing, registered, own_tasks, named, rises, stopped}
 
--- the component at place k is noted at k + 1: one more than its number, and its own tasks
-unfoldable pub entries_noted : List ℕ → List ℕ → ℕ → ℕ → List Entry
-entries_noted lowest tasks zero k = []
-entries_noted lowest tasks (suc n) k = record { number = get_or lowest (suc k) 0 - 1; tasks = get_or tasks (suc k) 0 } ∷ entries_noted lowest tasks n (suc k)
+-- a component is held with one more than its number, and its own tasks
+abbrev pub entry_in : State → Entry
+entry_in st = record { number = st.lowest - 1; tasks = st.tasks }
 
-unfoldable pub entries_in : List ℕ → List ℕ → ℕ → List Entry
-entries_in lowest tasks count = entries_noted lowest tasks count 0
+abbrev pub entries_in : List State → List Entry
+entries_in cs = map entry_in cs
 
--- the first of n places behind k where that number is noted, or 0
-unfoldable pub sought_from : List ℕ → ℕ → ℕ → ℕ → ℕ
-sought_from lowest zero k number = 0
-sought_from lowest (suc n) k number = cond (eqb (get_or lowest (suc k) 0) (number + 1)) (suc k) (sought_from lowest n (suc k) number)
+-- the place of the component of a number
+abbrev pub found : List State → ℕ → Option ℕ
+found cs number = position (λ (st : State). st.lowest == number + 1) cs
 
-unfoldable pub sought : List ℕ → ℕ → ℕ → ℕ
-sought lowest count number = sought_from lowest count 0 number
-
--- what a pair is answered by the lowest child allowed, the places of its child and its parent, and what its parent holds
-unfoldable pub answered : ℕ → ℕ → ℕ → ℕ → Pair → ℕ
-answered lowest child parent load p =
-    cond ((ltb p.child p.parent && leb lowest p.child) && (ltb 0 child && ltb 0 parent))
-    (cond (leb most_tasks load) refusal.tasks refusal.none)
-    refusal.pair
-
--- it stops at this record
-unfoldable pub halted : ℕ → Course → Course
-halted n c = record { going = false; refusal = n; place = c.place; lowest = c.lowest }
-
--- behind a pair that is taken: the next child is larger
-unfoldable pub behind_pair : Course → Pair → Course
-behind_pair c p = record { going = true; refusal = refusal.none; place = c.place + size_of (PairRecord p); lowest = p.child + 1 }
-
--- the numbers say of the walk over these components' pairs all that the next record is judged by
-pub record Kept (lowest loads : List ℕ) (count : ℕ) (es : List Entry) (c : Course) (st : Pairing) : Type 0 where
-  pub going : c.going ≡ st.going
-  pub refused : c.refusal ≡ st.refusal
+-- what is held says of the walk over these components' pairs all that the next record is judged by
+pub record Kept (cs : List State) (es : List Entry) (c : Course) (st : Pairing) : Type 0 where
+  pub going : st.going ≡ true
   pub place : c.place ≡ st.place
-  pub counted : length es ≡ count
-  pub long : length loads ≡ suc most_components
-  pub known : (n : ℕ) → ltb 0 (sought lowest count n) ≡ registered es n
+  pub counted : length es ≡ length cs
+  pub known : (n : ℕ) → is_some (found cs n) ≡ registered es n
   pub rise : (n : ℕ) → leb c.lowest n ≡ rises st.pairs n
-  pub load : (n : ℕ) → registered es n ≡ true → get_or loads (sought lowest count n) 0 ≡ own_tasks es n + named st.pairs n
+  pub load : (n k : ℕ) (d : State) → found cs n ≡ Some k → (get_or cs k d).tasks ≡ own_tasks es n + named st.pairs n
 
--- from one course to the next the numbers follow the walk
-abbrev pub Follows : List ℕ → List ℕ → List ℕ → ℕ → Course → Course → (List Entry → Pairing → Pairing) → Type 0
-Follows lowest loads after count c next turn =
-    (es : List Entry) (st : Pairing) → Kept lowest loads count es c st → Kept lowest after count es next (turn es st)
+-- what a step answers follows the walk: a pair is taken, or the end record closes the sheet, or a record is refused
+abbrev pub Turned : List State → List Entry → Result (Option Course) Refusal → Pairing → Pairing → Type 0
+Turned cs es (Ok (Some next)) st turned = Kept cs es next turned
+Turned cs es (Ok None) st turned = turned ≡ stopped refusal.none st
+Turned cs es (Err r) st turned = turned ≡ stopped (refusal.number_of r) st
 
--- what the walk is called with: a sheet not too long, a place in it, and as many components as may be, each noted
-pub record Walkable (s lowest : List ℕ) (count start : ℕ) : Type 0 where
+-- a step from one course on, with what is held before and behind it
+abbrev pub Turns : List State → List State → Course → Result (Option Course) Refusal → (List Entry → Pairing → Pairing) → Type 0
+Turns cs after c result turn = (es : List Entry) (st : Pairing) → Kept cs es c st → Turned after es result st (turn es st)
+
+-- the same of a pair alone
+abbrev pub Took : List State → List Entry → Result Course Refusal → Pairing → Pairing → Type 0
+Took cs es (Ok next) st turned = Kept cs es next turned
+Took cs es (Err r) st turned = turned ≡ stopped (refusal.number_of r) st
+
+abbrev pub Follows : List State → List State → Course → Result Course Refusal → (List Entry → Pairing → Pairing) → Type 0
+Follows cs after c result turn = (es : List Entry) (st : Pairing) → Kept cs es c st → Took after es result st (turn es st)
+
+-- what the walk is called with: a sheet not too long, a place in it, and components that are each held with a number
+pub record Walkable (s : List ℕ) (cs : List State) (start : ℕ) : Type 0 where
   pub within : start ≤ length s
   pub short : length s ≤ most_bytes
-  pub few : count ≤ most_components
-  pub noted : (k : ℕ) → k < count → 0 < get_or lowest (suc k) 0
+  pub numbered : (k : ℕ) (d : State) → k < length cs → 0 < (get_or cs k d).lowest
 
 -- how it ended
-abbrev pub ends_of : Pairing → Ends
-ends_of st = record { refusal = st.refusal; place = st.place }
+abbrev pub Ends : Result (Unit {0}) Fault → Pairing → Type 0
+Ends (Ok u) last = last.refusal ≡ refusal.none
+Ends (Err f) last = (last.refusal ≡ refusal.number_of f.refusal) × (last.place ≡ f.place)

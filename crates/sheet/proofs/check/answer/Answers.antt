@@ -1,14 +1,24 @@
--- The walk over the pairs is given what the first walk noted, and each answer is the definition's at the refusal that led there.
-use mathlib.Core.Path.{◌∙◌}
-use Rattle.sheet.proofs.RegisterLaws.{walkable, refused_answer, paired_answer}
+-- The walk over the pairs is lent what the first walk holds of each component, and each answer is the definition's.
+use Prim.Native.Nat.{◌≤◌}
+use native.Mathlib.Omega.{arith}
+use borrow.Author.Rules.{rules}
+use Rattle.std.proofs.lemmas.Result.{err_from_is_err_and}
+use Rattle.sheet.proofs.RegisterLaws.{few, long, walkable, paired_answer, paired_refused}
 use Rattle.sheet.proofs.check.answer.Goals as goal
 
-pub returns-then-number-ne-NONE : goal.returns-then-number-ne-NONE
-returns-then-number-ne-NONE c = c.checked_of.ensures ∙ refused_answer c.args.sheet.now c.args.found c.requires c.if-number-ne-NONE.true
+pub overflow_add-count : goal.overflow_add-count
+overflow_add-count c = let f = few _ _ c.requires in search rules
 
-pub pair_walk-ends-requires : goal.pair_walk-ends-requires
-pair_walk-ends-requires c = walkable c.args.sheet.now c.args.found c.requires c.if-number-ne-NONE.false
+pub slice_bounds-held-end : goal.slice_bounds-held-end
+slice_bounds-held-end c = let f = few _ _ c.requires in let l = long _ _ c.requires in omega arith
+
+pub pair_walk-requires : goal.pair_walk-requires
+pair_walk-requires c = walkable _ _ c.requires _ (omega arith)
+
+pub returns-in_err-pair_walk : goal.returns-in_err-pair_walk
+returns-in_err-pair_walk c =
+    let p = err_from_is_err_and c.from_residual.result c.from_residual.ensures.1 in
+    rw (p.1, p.2) (paired_refused _ _ c.requires _ (omega arith) _ c.in_err-pair_walk.ensures)
 
 pub returns : goal.returns
-returns c = c.checked_of-2.ensures
-    ∙ paired_answer c.args.sheet.now c.args.found c.requires c.if-number-ne-NONE.false c.pair_walk-ends.result c.pair_walk-ends.ensures
+returns c = paired_answer _ _ c.requires _ (omega arith) c.in_ok-pair_walk.ensures

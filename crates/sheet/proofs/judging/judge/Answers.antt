@@ -1,41 +1,40 @@
--- A record that is not refused is taken, each kind in its own case; the record fits since its size does.
-use Rattle.sheet.specs.Judging.{ended, after}
-use Rattle.sheet.proofs.JudgingLaws.{judged_refused, judged_taken, head_fits, task_fits}
+-- A record that is refused leaves the walk where it begins; one that is taken fits, since its size does.
+use mathlib.Core.Path.{sym, ◌∙◌}
+use Rattle.std.proofs.Common.{inl, inr}
+use Rattle.std.proofs.lemmas.Result.{err_from_is_err_and}
+use Rattle.record.specs.Record.{ComponentRecord, TaskRecord}
+use Rattle.sheet.specs.Judging.{record_refusal, after, judged}
+use Rattle.sheet.proofs.JudgingLaws.{judged_refused, judged_taken, head_taken, task_taken}
 use Rattle.sheet.proofs.judging.judge.Goals as goal
 
-pub returns-then-refused-ne-NONE : goal.returns-then-refused-ne-NONE
-returns-then-refused-ne-NONE c = let a = c.args in
-    judged_refused a.state a.«record» _ c.check_record-refused.ensures c.if-refused-ne-NONE.true _ c.refuse.ensures
+pub returns-in_err-check_head-in-Component : goal.returns-in_err-check_head-in-Component
+unfolding record_refusal
+returns-in_err-check_head-in-Component c =
+    let p = err_from_is_err_and c.from_residual.result c.from_residual.ensures.1 in
+    rw (p.1, p.2, c.in-Component.is) (judged_refused _ (ComponentRecord c.in-Component.head) _ c.in_err-check_head-in-Component.ensures)
 
 pub after_head-requires : goal.after_head-requires
-after_head-requires c = let a = c.args in
-    head_fits a.state a.«record» _ c.check_record-refused.ensures c.if-refused-ne-NONE.false _ c.in-ComponentRecord.is c.requires
+after_head-requires c = (rw c.in-Component.is at c.requires, (head_taken _ _ (sym c.in_ok-check_head-in-Component.ensures)).few)
+
+pub returns-in_err-check_standing-in-Task : goal.returns-in_err-check_standing-in-Task
+unfolding record_refusal
+returns-in_err-check_standing-in-Task c =
+    let p = err_from_is_err_and c.from_residual-in_err-check_standing-in-Task.result c.from_residual-in_err-check_standing-in-Task.ensures.1 in
+    rw (p.1, p.2, c.in-Task.is) (judged_refused _ (TaskRecord c.in-Task.stated c.in-Task.task) _ c.in_err-check_standing-in-Task.ensures)
 
 pub after_task-requires : goal.after_task-requires
-after_task-requires c = let a = c.args in
-    task_fits a.state a.«record» _ c.check_record-refused.ensures c.if-refused-ne-NONE.false _ _ c.in-TaskRecord.is c.requires
+after_task-requires c = (rw c.in-Task.is at c.requires, (task_taken _ _ _ (sym c.in_ok-check_standing-in-Task.ensures)).few)
 
-pub returns-in-ComponentRecord : goal.returns-in-ComponentRecord
-unfolding after ended
-returns-in-ComponentRecord c = let a = c.args in
-    judged_taken a.state a.«record» _ c.check_record-refused.ensures c.if-refused-ne-NONE.false _ c.in-ComponentRecord.is _ c.after_head.ensures
+pub returns-in_ok-check_head-in-Component : goal.returns-in_ok-check_head-in-Component
+unfolding record_refusal after
+returns-in_ok-check_head-in-Component c =
+    rw c.in-Component.is (c.after_head.ensures ∙ judged_taken _ (ComponentRecord c.in-Component.head) c.in_ok-check_head-in-Component.ensures)
 
-pub returns-in-TaskRecord : goal.returns-in-TaskRecord
-unfolding after ended
-returns-in-TaskRecord c = let a = c.args in
-    judged_taken a.state a.«record» _ c.check_record-refused.ensures c.if-refused-ne-NONE.false _ c.in-TaskRecord.is _ c.after_task.ensures
+pub returns-in_ok-check_standing-in-Task : goal.returns-in_ok-check_standing-in-Task
+unfolding record_refusal after
+returns-in_ok-check_standing-in-Task c =
+    rw c.in-Task.is (c.after_task.ensures ∙ judged_taken _ (TaskRecord c.in-Task.stated c.in-Task.task) c.in_ok-check_standing-in-Task.ensures)
 
-pub returns-in-PairRecord : goal.returns-in-PairRecord
-unfolding after ended
-returns-in-PairRecord c = let a = c.args in
-    judged_taken a.state a.«record» _ c.check_record-refused.ensures c.if-refused-ne-NONE.false _ c.in-PairRecord.is _ c.refuse-in-PairRecord.ensures
-
-pub returns-in-EndRecord : goal.returns-in-EndRecord
-unfolding after ended
-returns-in-EndRecord c = let a = c.args in
-    judged_taken a.state a.«record» _ c.check_record-refused.ensures c.if-refused-ne-NONE.false _ c.in-EndRecord.is _ c.refuse-in-EndRecord.ensures
-
-pub returns-in-NoRecord : goal.returns-in-NoRecord
-unfolding after ended
-returns-in-NoRecord c = let a = c.args in
-    judged_taken a.state a.«record» _ c.check_record-refused.ensures c.if-refused-ne-NONE.false _ c.in-NoRecord.is _ c.refuse-in-NoRecord.ensures
+pub returns-in-Pair : goal.returns-in-Pair
+unfolding judged record_refusal after
+returns-in-Pair c = elim c.in-Pair.is [ inl p ↦ rw p.1 | inr p ↦ rw p.1 ]

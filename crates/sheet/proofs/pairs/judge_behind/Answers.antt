@@ -1,27 +1,34 @@
--- Each kind of record in its own case: the course stops as the walk does, or a pair is judged.
-use Rattle.sheet.specs.Pairs.{pair_judged}
-use Rattle.sheet.proofs.CourseLaws.{kept_halted}
+-- Each kind of record in its own case: the walk stops as that of the definition does, or a pair is judged.
+use mathlib.Core.Path.{sym, ap}
+use Prim.Native.Nat.{ℕ}
+use Rattle.std.proofs.lemmas.Result.{err_from_is_err_and}
+use Rattle.sheet.specs.Pairs.{stopped, pair_judged}
 use Rattle.sheet.proofs.pairs.judge_behind.Goals as goal
 
-pub take_pair-requires : goal.take_pair-requires
-take_pair-requires c = let p = c.requires in (p.0, rw c.in-PairRecord.is at p.1)
-
-pub returns-in-ComponentRecord : goal.returns-in-ComponentRecord
+pub returns-in-Component : goal.returns-in-Component
 unfolding pair_judged
-returns-in-ComponentRecord c es st k = rw (c.in-ComponentRecord.is, c.halt.ensures) (kept_halted _ _ _ es _ st k 16)
+returns-in-Component c es st k = rw c.in-Component.is
 
-pub returns-in-TaskRecord : goal.returns-in-TaskRecord
+pub returns-in-Task : goal.returns-in-Task
 unfolding pair_judged
-returns-in-TaskRecord c es st k = rw (c.in-TaskRecord.is, c.halt-in-TaskRecord.ensures) (kept_halted _ _ _ es _ st k 16)
+returns-in-Task c es st k = rw c.in-Task.is
 
-pub returns-in-PairRecord : goal.returns-in-PairRecord
+pub returns-in_err-take_pair-in-Pair : goal.returns-in_err-take_pair-in-Pair
 unfolding pair_judged
-returns-in-PairRecord c es st k = rw c.in-PairRecord.is (c.take_pair.ensures es st k)
+returns-in_err-take_pair-in-Pair c es st k =
+    let p = err_from_is_err_and c.from_residual.result c.from_residual.ensures.1 in
+    rw (p.1, p.2, c.in-Pair.is) (c.in_err-take_pair-in-Pair.ensures es st k)
 
-pub returns-in-EndRecord : goal.returns-in-EndRecord
+pub returns-in_ok-take_pair-in-Pair : goal.returns-in_ok-take_pair-in-Pair
 unfolding pair_judged
-returns-in-EndRecord c es st k = rw (c.in-EndRecord.is, c.halt-in-EndRecord.ensures, ← c.check_ending.ensures es k.counted) (kept_halted _ _ _ es _ st k _)
+returns-in_ok-take_pair-in-Pair c es st k = rw c.in-Pair.is (c.in_ok-take_pair-in-Pair.ensures es st k)
 
-pub returns-in-NoRecord : goal.returns-in-NoRecord
+pub returns-in_err-check_ending-in-End : goal.returns-in_err-check_ending-in-End
 unfolding pair_judged
-returns-in-NoRecord c es st k = rw (c.in-NoRecord.is, c.halt-in-NoRecord.ensures) (kept_halted _ _ _ es _ st k _)
+returns-in_err-check_ending-in-End c es st k =
+    let p = err_from_is_err_and c.from_residual-in_err-check_ending-in-End.result c.from_residual-in_err-check_ending-in-End.ensures.1 in
+    rw (p.1, p.2, c.in-End.is) (ap (λ (n : ℕ). stopped n st) (sym (c.in_err-check_ending-in-End.ensures es k.counted)))
+
+pub returns-in_ok-check_ending-in-End : goal.returns-in_ok-check_ending-in-End
+unfolding pair_judged
+returns-in_ok-check_ending-in-End c es st k = rw c.in-End.is (ap (λ (n : ℕ). stopped n st) (sym (c.in_ok-check_ending-in-End.ensures es k.counted)))

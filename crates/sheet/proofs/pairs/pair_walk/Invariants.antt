@@ -1,9 +1,12 @@
--- The loop's invariant: the answer from the start is the answer from here, and the numbers follow the walk. What is left of the sheet falls.
-use Rattle.sheet.proofs.PairWalking.{PairWalking, ahead}
+-- The loop's invariant: the answer from the start is the answer from here, and what is held follows the walk. What is left of the sheet falls.
+use Prim.Native.Nat.{◌-◌}
+use lib.ListN.{length}
+use Rattle.sheet.specs.inner.PairCourse.{entries_in}
+use Rattle.sheet.proofs.PairWalking.{PairWalking}
 use Rattle.sheet.proofs.pairs.pair_walk.Given as goal
 
-abbrev pub invariant-loop-going : goal.invariant-loop-going
-invariant-loop-going l = PairWalking l.sheet l.lowest l.initial.loads l.count l.start l.loads l.course l.going
+abbrev pub invariant-loop-next : goal.invariant-loop-next
+invariant-loop-next l = PairWalking l.sheet (entries_in l.fn.components) l.start l.components l.course
 
-abbrev pub decreases-loop-going : goal.decreases-loop-going
-decreases-loop-going l = ahead l.sheet l.course.place l.going
+abbrev pub decreases-loop-next : goal.decreases-loop-next
+decreases-loop-next l = length l.sheet - l.course.place

@@ -1,43 +1,34 @@
--- The pair is answered by what was found of its two components; taken, its parent's place holds one more.
-use Prim.Native.Nat.{◌<◌}
-use mathlib.Core.Path.{sym, ◌∙◌}
-use native.Mathlib.Omega.{arith}
-use Rattle.sheet.proofs.SoughtLaws.{sought_within}
-use Rattle.sheet.proofs.CourseLaws.{pair_refused, pair_added, answered_room}
+-- A pair is refused by the first test that it fails; taken, its parent holds one more.
+use mathlib.Core.Path.{refl, sym, ap, ◌∙◌}
+use borrow.Author.Tests.{le-ltb}
+use Rattle.std.specs.Prelude.{is_some}
+use Rattle.record.specs.Layout.{size_of}
+use Rattle.sheet.proofs.CourseLaws.{pair_unlike, pair_falls, pair_childless, pair_orphaned, pair_full, pair_kept}
 use Rattle.sheet.proofs.pairs.take_pair.Goals as goal
-use Rattle.sheet.proofs.pairs.take_pair.Goals.{After-find-parent}
+use Rattle.sheet.proofs.pairs.take_pair.Goals.{then-pair-via-then-pair, then-pair-via-else-pair+then-pair-course}
 
--- the parent's place is one of the array
-inside : (c : After-find-parent) → c.find-parent.result < 257
-inside c = let a = c.args in
-    let few = c.requires.0 in
-    let within = sought_within a.lowest.now a.pair.parent a.count in
-    let e = c.find-parent.ensures in
-    omega arith
+pub returns-then-pair : goal.returns-then-pair
+returns-then-pair c es st k = let a = c.args in
+    elim c.then-pair.branch [
+      | then-pair-via-then-pair w ↦ pair_unlike a.components.now es a.course st k a.pair (le-ltb _ _ w.if-pair.true)
+      | then-pair-via-else-pair+then-pair-course w ↦ pair_falls a.components.now es a.course st k a.pair w.if-pair-course.true
+    ]
 
-pub offset_bounds-loads-parent : goal.offset_bounds-loads-parent
-offset_bounds-loads-parent c = let i = inside c in omega arith
+pub returns-then-is_none : goal.returns-then-is_none
+returns-then-is_none c es st k = let a = c.args in
+    pair_childless a.components.now es a.course st k a.pair (sym (ap is_some c.find.ensures) ∙ c.if-is_none.ensures)
 
-pub bounds-loads-parent : goal.bounds-loads-parent
-bounds-loads-parent c = inside (goal.at.bounds-loads-parent c).After-find-parent
+pub returns-in_default : goal.returns-in_default
+returns-in_default c es st k = let a = c.args in
+    pair_orphaned a.components.now es a.course st k a.pair (ap is_some (sym c.find-2.ensures ∙ c.in_default.is))
 
-pub returns-then-refused-ne-NONE : goal.returns-then-refused-ne-NONE
-returns-then-refused-ne-NONE c es st k = let a = c.args in
-    pair_refused a.lowest.now a.loads.now a.count es a.course st k a.pair _ _ _ c.find-child.ensures c.find-parent.ensures c.check_pair-refused.ensures _ 0
-    c.if-refused-ne-NONE.true c.halt.ensures
-
-pub overflow_add-loads : goal.overflow_add-loads
-overflow_add-loads c =
-    let room = answered_room _ _ _ _ _ (sym c.if-refused-ne-NONE.false ∙ c.check_pair-refused.ensures) in
-    omega arith
-
-pub offset_bounds-loads-parent-2 : goal.offset_bounds-loads-parent-2
-offset_bounds-loads-parent-2 c = let i = inside (goal.at.offset_bounds-loads-parent-2 c).After-find-parent in omega arith
-
-pub bounds-loads-parent-2 : goal.bounds-loads-parent-2
-bounds-loads-parent-2 c = inside (goal.at.bounds-loads-parent-2 c).After-find-parent
+pub returns-then-components-parent-ge-MOST : goal.returns-then-components-parent-ge-MOST
+returns-then-components-parent-ge-MOST c es st k = let a = c.args in
+    pair_full a.components.now es a.course st k a.pair c.in-Some.parent _ c.if-pair.false c.if-pair-course.false
+    (sym (ap is_some c.find.ensures) ∙ c.if-is_none.ensures) (sym c.find-2.ensures ∙ c.in-Some.is) c.if-components-parent-ge-MOST.true
 
 pub returns : goal.returns
+unfolding size_of
 returns c es st k = let a = c.args in
-    pair_added a.lowest.now a.loads.now a.count es a.course st k a.pair _ _ _ c.find-child.ensures c.find-parent.ensures c.check_pair-refused.ensures _ 0
-    c.if-refused-ne-NONE.false c.after_pair.ensures c.requires.0
+    rw c.size_of.ensures (pair_kept a.components.now es a.course st k a.pair c.in-Some.parent _ c.if-pair.false c.if-pair-course.false
+    (sym (ap is_some c.find.ensures) ∙ c.if-is_none.ensures) (sym c.find-2.ensures ∙ c.in-Some.is) c.if-components-parent-ge-MOST.false _ refl refl)

@@ -1,35 +1,35 @@
 -- Refused, the component is nowhere; else it lies between two of the edges answered.
-use Prim.Native.Nat.{◌<◌}
+use Prim.Native.Nat.{◌≤◌}
 use native.Mathlib.Omega.{arith}
-use Rattle.sheet.proofs.PartLaws.{place_few, located_nowhere, located_found}
 use borrow.Author.Rules.{rules}
+use Rattle.std.proofs.lemmas.Result.{err_from_is_err_and}
+use Rattle.sheet.proofs.PartLaws.{few, located_refused, located_nowhere, located_found}
 use Rattle.sheet.proofs.part.locate.Goals as goal
-use Rattle.sheet.proofs.part.locate.Goals.{Else-refused-ne-NONE}
+use Rattle.sheet.proofs.part.locate.Goals.{In_ok-found}
 
--- a component stands at the place, so its two edges do
-few : (c : Else-refused-ne-NONE) → c.args.place < 256
-few c = let a = c.args in
-    place_few a.sheet.now a.place _ _ c.contents_of-found.ensures c.choose-checked.ensures c.if-refused-ne-NONE.false
+-- the edges are those of a sheet that is taken
+bounded : (c : In_ok-found) → c.in_ok-found.found.count ≤ 256
+bounded c = few _ c.args.place c.in_ok-found.found c.in_ok-found.ensures
 
-pub returns-then-refused-ne-NONE : goal.returns-then-refused-ne-NONE
-returns-then-refused-ne-NONE c = let a = c.args in
-    located_nowhere a.sheet.now a.place _ _ c.contents_of-found.ensures c.choose-checked.ensures c.if-refused-ne-NONE.true
+pub returns-in_err-found : goal.returns-in_err-found
+returns-in_err-found c =
+    let p = err_from_is_err_and c.from_residual.result c.from_residual.ensures.1 in
+    rw (p.1, p.2) (located_refused _ c.args.place _ c.in_err-found.ensures)
 
-pub offset_bounds-edges-place : goal.offset_bounds-edges-place
-offset_bounds-edges-place c = let f = few (goal.at.offset_bounds-edges-place c).Else-refused-ne-NONE in search rules
+pub returns-then-found-place : goal.returns-then-found-place
+returns-then-found-place c = located_nowhere _ c.args.place c.in_ok-found.found c.in_ok-found.ensures c.if-found-place.true
 
-pub bounds-edges-place : goal.bounds-edges-place
-bounds-edges-place c = let f = few (goal.at.bounds-edges-place c).Else-refused-ne-NONE in omega arith
+pub offset_bounds-found-place : goal.offset_bounds-found-place
+offset_bounds-found-place c = let f = few _ c.args.place c.in_ok-found.found c.in_ok-found.ensures in omega arith
 
-pub overflow_add-to : goal.overflow_add-to
-overflow_add-to c = let f = few (goal.at.overflow_add-to c).Else-refused-ne-NONE in search rules
+pub bounds-found-place : goal.bounds-found-place
+bounds-found-place c = let f = few _ c.args.place c.in_ok-found.found c.in_ok-found.ensures in omega arith
 
-pub offset_bounds-edges-place-2 : goal.offset_bounds-edges-place-2
-offset_bounds-edges-place-2 c = let f = few (goal.at.offset_bounds-edges-place-2 c).Else-refused-ne-NONE in search rules
+pub offset_bounds-found-place-2 : goal.offset_bounds-found-place-2
+offset_bounds-found-place-2 c = let f = few _ c.args.place c.in_ok-found.found c.in_ok-found.ensures in omega arith
 
-pub bounds-edges-place-2 : goal.bounds-edges-place-2
-bounds-edges-place-2 c = let f = few (goal.at.bounds-edges-place-2 c).Else-refused-ne-NONE in omega arith
+pub bounds-found-place-2 : goal.bounds-found-place-2
+bounds-found-place-2 c = let f = few _ c.args.place c.in_ok-found.found c.in_ok-found.ensures in omega arith
 
 pub returns : goal.returns
-returns c = let a = c.args in
-    located_found a.sheet.now a.place _ _ c.contents_of-found.ensures c.choose-checked.ensures c.if-refused-ne-NONE.false
+returns c = located_found _ c.args.place c.in_ok-found.found c.in_ok-found.ensures c.if-found-place.false

@@ -4,7 +4,7 @@ use mathlib.Core.Path.{◌≡◌, ap}
 use native.Mathlib.Omega.{arith}
 use lib.ListN.{length}
 use borrow.Author.Tests.{eq-eqb, ne_eqb}
-use Rattle.sheet.specs.declared.part.Located.{Located}
+use Rattle.sheet.specs.Part.{Located}
 use Rattle.sheet.specs.Part.{part_check, span_of, located, part_of}
 use Rattle.sheet.proofs.PartLaws.{span_order, span_within}
 use Rattle.transfer.specs.Reading.{reading}
