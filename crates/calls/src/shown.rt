@@ -39,7 +39,12 @@ impl Out {
 
     // `zero` if every task place from the count on is (0, 0, 0, 0), else `filled`.
     fn rest(&mut self, table: Table) {
-        if table.tasks.iter().skip(table.count).all(|task| *task == Task::NONE) {
+        if table
+            .tasks
+            .iter()
+            .skip(table.count)
+            .all(|task| *task == Task::NONE)
+        {
             self.word("zero");
         } else {
             self.word("filled");

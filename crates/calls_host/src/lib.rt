@@ -24,17 +24,29 @@ pub fn host(words: &mut Words<'_>, out: &mut Out) {
     let mut bytes = [0u8; ROOM];
     let sheet = words.row(&mut bytes);
     let place = words.place();
-    called(words, out, |reply, at| jougsilver::jougsilver_judge(sheet, place, reply, at));
+    called(
+        words,
+        out,
+        |reply, at| jougsilver::jougsilver_judge(sheet, place, reply, at),
+    );
 }
 
 pub fn host_check(words: &mut Words<'_>, out: &mut Out) {
     let mut bytes = [0u8; ROOM];
     let sheet = words.row(&mut bytes);
-    called(words, out, |reply, at| jougsilver::jougsilver_check(sheet, reply, at));
+    called(
+        words,
+        out,
+        |reply, at| jougsilver::jougsilver_check(sheet, reply, at),
+    );
 }
 
 pub fn host_all(words: &mut Words<'_>, out: &mut Out) {
     let mut bytes = [0u8; ROOM];
     let sheet = words.row(&mut bytes);
-    called(words, out, |reply, at| jougsilver::jougsilver_judge_all(sheet, reply, at));
+    called(
+        words,
+        out,
+        |reply, at| jougsilver::jougsilver_judge_all(sheet, reply, at),
+    );
 }

@@ -17,7 +17,11 @@ pub fn legal(words: &mut Words<'_>, out: &mut Out) {
     let trace = words.row(&mut bytes);
     let answered = is_legal(interface, offset, trace);
     out.status(&answered);
-    out.word(if answered.unwrap_or(false) { "yes" } else { "no" });
+    out.word(if answered.unwrap_or(false) {
+        "yes"
+    } else {
+        "no"
+    });
 }
 
 // What a walk shows where it is refused.

@@ -35,7 +35,10 @@ pub fn read_pair(words: &mut Words<'_>, out: &mut Out) {
     let place = words.place();
     let answered = pair::read_pair(sheet, place);
     shown::put_status(out, &answered);
-    let pair = answered.unwrap_or(Pair { child: 0, parent: 0 });
+    let pair = answered.unwrap_or(Pair {
+        child: 0,
+        parent: 0,
+    });
     out.word(pair.child);
     out.word(pair.parent);
 }

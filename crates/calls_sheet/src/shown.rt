@@ -1,7 +1,7 @@
 // What an answer on a sheet shows.
 use budget::component::{Component, refused};
 use calls::print::Out;
-use sheet::check::Fault;
+use sheet::fault::Fault;
 
 // `refused` with its number and place.
 pub fn put_fault(out: &mut Out, fault: Fault) {

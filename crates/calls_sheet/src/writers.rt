@@ -6,7 +6,11 @@ use transfer::pair::{self, Pair};
 use transfer::write;
 
 // Writes into the buffer from the place on that the call says, and shows the answer and the buffer.
-fn written<F: FnOnce(&mut [u8], usize) -> Result<usize, Refusal>>(words: &mut Words<'_>, out: &mut Out, write: F)
+fn written<F: FnOnce(&mut [u8], usize) -> Result<usize, Refusal>>(
+    words: &mut Words<'_>,
+    out: &mut Out,
+    write: F,
+)
     requires { F.IsAlwaysCallable write }
 {
     let mut buffer = [0xa5u8; 4096];
@@ -23,7 +27,11 @@ fn written<F: FnOnce(&mut [u8], usize) -> Result<usize, Refusal>>(words: &mut Wo
 
 pub fn write(words: &mut Words<'_>, out: &mut Out) {
     let component = words.component();
-    written(words, out, |part, at| write::write_component(part, at, component));
+    written(
+        words,
+        out,
+        |part, at| write::write_component(part, at, component),
+    );
 }
 
 pub fn write_end(words: &mut Words<'_>, out: &mut Out) {

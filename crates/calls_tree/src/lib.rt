@@ -7,7 +7,7 @@ use calls::rows::ROOM;
 use calls::words::Words;
 use calls_judge::shown::put_judgement;
 use calls_sheet::shown::put_fault;
-use sheet::check::Fault;
+use sheet::fault::Fault;
 use tree::answer::Outcome;
 use tree::place::{judge_place, load_place};
 

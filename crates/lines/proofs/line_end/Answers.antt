@@ -16,9 +16,9 @@ pub returns-in-Some : goal.returns-in-Some
 returns-in-Some c =
     let first = if_some _ _ _ c.in-Some.is (IsFirst-from_position _ _ _ (λ byte. byte ≡ 10) (λ byte. byte ≡ 10 → ⊥) c.position.ensures.ran (YieldsList-from_slice (drop c.args.from c.args.bytes.now) (c.iter.ensures.rest ∙ take_rest c.args.bytes.now c.args.from)) (λ x q k. search (rules, tests)) (λ x q k. search (rules, tests))) in
     record {
-        low = omega arith;
-        none_before = passed_on c.args.bytes.now c.args.from c.in-Some.before first.2;
-        ends = λ _. sym (get_or-drop c.args.from c.args.bytes.now c.in-Some.before 0) ∙ first.1 0;
+      low = omega arith;
+      none_before = passed_on c.args.bytes.now c.args.from c.in-Some.before first.2;
+      ends = λ _. sym (get_or-drop c.args.from c.args.bytes.now c.in-Some.before 0) ∙ first.1 0;
     }
 
 pub returns-in-None : goal.returns-in-None
@@ -26,7 +26,7 @@ returns-in-None c =
     let first = if_none _ _ c.in-None.is (IsFirst-from_position _ _ _ (λ byte. byte ≡ 10) (λ byte. byte ≡ 10 → ⊥) c.position.ensures.ran (YieldsList-from_slice (drop c.args.from c.args.bytes.now) (c.iter.ensures.rest ∙ take_rest c.args.bytes.now c.args.from)) (λ x q k. search (rules, tests)) (λ x q k. search (rules, tests))) in
     let long = length-drop c.args.from c.args.bytes.now in
     record {
-        low = omega arith;
-        none_before = λ k below above. passed_on c.args.bytes.now c.args.from _ first k (omega (arith, long)) above;
-        ends = λ below. absurd (omega arith);
+      low = omega arith;
+      none_before = λ k below above. passed_on c.args.bytes.now c.args.from _ first k (omega (arith, long)) above;
+      ends = λ below. absurd (omega arith);
     }

@@ -3,4 +3,4 @@ use Rattle.budget.specs.Component.{Right}
 use Rattle.calls_edit.proofs.edits.edit_all.Given as goal
 
 abbrev pub invariant-loop : goal.invariant-loop
-invariant-loop l = Right l.edited.component
+invariant-loop l = Right l.edited
