@@ -1,6 +1,6 @@
 -- What the walk over pairs holds says all that the next record is judged by, at its start and behind each record: a parent holds its own tasks and
 -- its children so far.
-use Prim.Native.Nat.{ℕ, suc, ◌+◌, ◌-◌, ◌≤◌, ◌<◌}
+use Prim.Native.Nat.{ℕ, ◌+◌, ◌-◌, ◌≤◌, ◌<◌}
 use mathlib.Core.Path.{◌≡◌, refl, sym, ap, ◌∙◌}
 use mathlib.Core.Bool.{Bool, true, false, ◌&&◌}
 use mathlib.Core.List.{List, [], ◌∷◌, ◌++◌}
@@ -11,8 +11,7 @@ use lib.Dec.{leb, ltb, eqb}
 use borrow.Author.Tests.{leb-true, leb-false, le-leb, lt-leb, lt-ltb, le-ltb, eqb-true, eqb-false}
 use Rattle.std.specs.Prelude.{Some, is_some}
 use Rattle.std.proofs.lemmas.List.{length-map}
-use Rattle.budget.specs.declared.refusal.Refusal.TheVariants as refusal
-use Rattle.budget.proofs.Valid.{both, and_true}
+use Rattle.budget.proofs.Valid.{and_true}
 use Rattle.record.specs.declared.layout.Pair.{Pair}
 use Rattle.record.specs.Record.{Record, PairRecord}
 use Rattle.record.specs.Layout.{size_of, record_of}
@@ -20,12 +19,11 @@ use Rattle.record.proofs.Cases.{either}
 use Rattle.sheet.specs.declared.judging.State.{State}
 use Rattle.sheet.specs.declared.pairs.Course.{Course}
 use Rattle.sheet.specs.Register.{Entry}
-use Rattle.sheet.specs.Pairs.{Pairing, registered, own_tasks, named, rises, pairs, pair_refusal, stopped, after_pair, pair_judged, pair_step}
+use Rattle.sheet.specs.Pairs.{Pairing, own_tasks, named, rises, pairs, pair_refusal, stopped, after_pair, pair_judged, pair_step}
 use Rattle.sheet.specs.inner.PairCourse.{entry_in, entries_in, found, Kept}
 use Rattle.sheet.proofs.WalkLaws.{rest_is}
-use Rattle.sheet.proofs.PairLaws.{PairTaken, pair_taken}
 use Rattle.sheet.proofs.NestedLaws.{named_append, named_one, rises_append}
-use Rattle.sheet.proofs.SoughtLaws.{Numbered, found_within, found_number, found_once, found_set, found_registered, found_tasks}
+use Rattle.sheet.proofs.SoughtLaws.{Numbered, found_within, found_once, found_set, found_registered, found_tasks}
 
 and_false : (a : Bool) {b : Bool} → b ≡ false → (a && b) ≡ false
 and_false true e = e

@@ -1,22 +1,21 @@
 -- The place where the component of a number is held: each number has its own, and what is held there is what the list of the components says.
-use Prim.Native.Nat.{ℕ, zero, suc, ◌+◌, ◌-◌, ◌≤◌, ◌<◌}
+use Prim.Native.Nat.{ℕ, zero, suc, ◌+◌, ◌-◌, ◌<◌}
 use mathlib.Core.Path.{◌≡◌, refl, sym, ap, ◌∙◌}
-use mathlib.Core.Bool.{Bool, true, false, cond, ◌||◌}
+use mathlib.Core.Bool.{Bool, true, false, ◌||◌}
 use mathlib.Core.List.{List, [], ◌∷◌}
 use native.Mathlib.Omega.{arith}
 use lib.ListN.{length, get_or, set, length-set}
-use lib.Dec.{ltb, eqb}
+use lib.Dec.{eqb}
 use borrow.Author.Tests.{eqb-true, eqb-false, eq-eqb, ne_eqb}
-use Rattle.std.specs.Prelude.{Option, Some, None, is_some}
-use Rattle.std.specs.List.{position_from, position_or_len}
+use Rattle.std.specs.Prelude.{Option, Some, is_some}
+use Rattle.std.specs.List.{position_from}
 use Rattle.std.proofs.lemmas.Iterator.Adapters.{position_from-zero}
 use Rattle.std.proofs.lemmas.List.Folds.{position_or_len-set}
 use Rattle.std.proofs.lemmas.List.Quantifiers.{position-Some}
 use Rattle.record.proofs.Cases.{cases, either}
 use Rattle.sheet.specs.declared.judging.State.{State}
-use Rattle.sheet.specs.Register.{Entry}
 use Rattle.sheet.specs.Pairs.{registered, own_tasks}
-use Rattle.sheet.specs.inner.PairCourse.{entry_in, entries_in, found}
+use Rattle.sheet.specs.inner.PairCourse.{entries_in, found}
 
 -- a component's number, by what it is held with
 abbrev pub numbered : ℕ → State → Bool

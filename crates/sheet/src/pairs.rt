@@ -26,7 +26,7 @@ pub struct Course {
 fn find(components: &[State], number: u16) -> Option<usize>
     ensures { result ≡ position (λ state. state.lowest == number + 1) components.now }
 {
-    let lowest = number as u32 + 1;
+    let lowest = u32::from(number) + 1;
     components.iter().position(|state| state.lowest == lowest)
 }
 
@@ -35,7 +35,7 @@ fn find(components: &[State], number: u16) -> Option<usize>
 fn check_ending(components: usize, count: u16, left: usize) -> Result<(), Refusal>
     ensures { (es : List Entry) → length es ≡ components → number_in result ≡ ending_refusal es count left }
 {
-    if count as usize != components {
+    if usize::from(count) != components {
         return Err(Refusal::End);
     }
     if left != size_of(Record::End(count)) {
@@ -49,7 +49,7 @@ fn take_pair(components: &mut [State], course: Course, pair: Pair) -> Result<Cou
     requires { course.place + size_of (PairRecord pair) ≤ 65_536 }
     ensures { Follows components.old components.new course result (λ es st. pair_judged es st (PairRecord pair) 0) }
 {
-    if pair.parent <= pair.child || (pair.child as u32) < course.lowest {
+    if pair.parent <= pair.child || u32::from(pair.child) < course.lowest {
         return Err(Refusal::Pair);
     }
     if find(components, pair.child).is_none() {
@@ -64,7 +64,7 @@ fn take_pair(components: &mut [State], course: Course, pair: Pair) -> Result<Cou
     components[parent].tasks += 1;
     Ok(Course {
         place: course.place + size_of(Record::Pair(pair)),
-        lowest: pair.child as u32 + 1,
+        lowest: u32::from(pair.child) + 1,
     })
 }
 

@@ -1,12 +1,12 @@
 -- How the walk over the pairs is kept in the code: the components as the first walk held them, each with the children that it has so far among its
 -- tasks, and of the pairs so far only the lowest number that the next child may have.
-use Rattle.std.specs.Prelude.{ℕ, suc, ◌-◌, ◌+◌, ◌≤◌, ◌<◌, ◌≡◌, ◌==◌, true, Option, Some, None, Result, Ok, Err, List, map, length, get_or, leb, position, is_some, ⊤}
+use Rattle.std.specs.Prelude.{ℕ, ◌-◌, ◌+◌, ◌≤◌, ◌<◌, ◌≡◌, ◌==◌, true, Option, Some, None, Result, Ok, Err, List, map, length, get_or, leb, position, is_some}
 use Rattle.budget.specs.declared.refusal.Refusal.{Refusal}
 use Rattle.budget.specs.Refusal as refusal
 use Rattle.sheet.specs.declared.fault.Fault.{Fault}
 use Rattle.sheet.specs.declared.judging.State.{State}
 use Rattle.sheet.specs.declared.pairs.Course.{Course}
-use Rattle.sheet.specs.Judging.{most_bytes, most_components}
+use Rattle.sheet.specs.Judging.{most_bytes}
 use Rattle.sheet.specs.Register.{Entry}
 use Rattle.sheet.specs.Pairs.{Pairing, registered, own_tasks, named, rises, stopped}
 
