@@ -12,8 +12,8 @@ use Rattle.jougsilver.specs.Host.{host_refusal}
 use Rattle.record.specs.Writing.{stored, room_refusal, buffered}
 use Rattle.record.proofs.Cases.{cases}
 use Rattle.transfer.specs.Reading.{reading}
-use Rattle.tree.specs.declared.answer.Outcome.{Outcome}
-use Rattle.tree.specs.declared.place.Placed.{Placed}
+use Rattle.tree.specs.numbers.Outcome.{Outcome}
+use Rattle.tree.specs.numbers.Placed.{Placed}
 use Rattle.tree.specs.Tree.{outcome_at, placing}
 
 -- a component that is refused is answered so

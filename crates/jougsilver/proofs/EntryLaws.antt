@@ -21,7 +21,7 @@ use Rattle.record.proofs.RowLaws.{row_length_lem}
 use Rattle.record.proofs.StoreLaws.{sets_append, written_bytes}
 use Rattle.sheet.specs.Contents.{edge_of}
 use Rattle.transfer.specs.Reading.{reading}
-use Rattle.tree.specs.declared.answer.Outcome.{Outcome}
+use Rattle.tree.specs.numbers.Outcome.{Outcome}
 use Rattle.tree.specs.Tree.{outcome_at}
 
 pub numbers_length : (a b c : ℕ) → length (numbers_bytes a b c) ≡ 12

@@ -15,7 +15,7 @@ use Rattle.judge.specs.Signed.{signed_bits}
 use Rattle.record.specs.declared.reply.Reply.{Reply}
 use Rattle.transfer.specs.Reply.{reply_bytes}
 use Rattle.transfer.specs.Writing.{room_refusal}
-use Rattle.tree.specs.declared.answer.Outcome.{Outcome}
+use Rattle.tree.specs.numbers.Outcome.{Outcome}
 
 -- the capacity and the verdict of an answer; a refused component gets no reply, so what stands here for it is never written
 abbrev pub capacity_in : Judged → ℕ

@@ -8,7 +8,7 @@ use Rattle.sheet.specs.Contents.{edge_of}
 use Rattle.transfer.specs.Reading.{reading}
 use Rattle.transfer.specs.Reply.{checked_bytes}
 use Rattle.transfer.specs.Writing.{room_refusal}
-use Rattle.tree.specs.declared.answer.Outcome.{Outcome}
+use Rattle.tree.specs.numbers.Outcome.{Outcome}
 use Rattle.tree.specs.Tree.{outcome_at}
 
 -- the order of refusals (RULES 13): reading the component at a place is refused by the sheet's number or 15, judging it by 10, writing the reply by 11

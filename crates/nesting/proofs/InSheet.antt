@@ -20,8 +20,8 @@ use Rattle.promises.proofs.Demand3.{demand_3}
 use Rattle.record.specs.Field.{Bytes}
 use Rattle.sheet.specs.Check.{check}
 use Rattle.transfer.specs.Reading.{reading}
-use Rattle.tree.specs.declared.answer.Load.{Load}
-use Rattle.tree.specs.declared.answer.Outcome.{Outcome}
+use Rattle.tree.specs.numbers.Load.{Load}
+use Rattle.tree.specs.numbers.Outcome.{Outcome}
 use Rattle.tree.specs.Offer.{offer_of}
 use Rattle.tree.specs.Outcome.{outcome_of}
 use Rattle.tree.specs.Tree.{load_at, outcome_at}

@@ -25,8 +25,8 @@ use Rattle.record.specs.Field.{Bytes}
 use Rattle.sheet.specs.Check.{check, pairs_of}
 use Rattle.transfer.specs.Pairing.{no_pair}
 use Rattle.transfer.specs.Reading.{reading}
-use Rattle.tree.specs.declared.answer.Outcome.{Outcome}
-use Rattle.tree.specs.declared.offer.Offer.{Offer}
+use Rattle.tree.specs.numbers.Outcome.{Outcome}
+use Rattle.tree.specs.numbers.Offer.{Offer}
 use Rattle.tree.specs.Nested.{children_at}
 use Rattle.tree.specs.Offer.{is_offered, offer_in, offer_of, offered_on}
 use Rattle.tree.specs.Tree.{load_at, offers_to, outcome_at}

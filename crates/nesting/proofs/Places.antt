@@ -20,7 +20,7 @@ use Rattle.transfer.specs.Pairing.{no_pair}
 use Rattle.transfer.specs.Reading.{reading}
 use Rattle.transfer.specs.RoundTrip.{entries_of}
 use Rattle.transfer.proofs.Sheet.{Sheet, accepted_sheet}
-use Rattle.tree.specs.declared.offer.Offer.{Offer}
+use Rattle.tree.specs.numbers.Offer.{Offer}
 use Rattle.tree.specs.Offer.{no_offer, offer_in, offering}
 use Rattle.tree.specs.Tree.{load_at, offers_to, outcome_at}
 use Rattle.tree.proofs.BelowLaws.{offer_is}

@@ -31,13 +31,13 @@ use Rattle.record.specs.Layout.{end_bytes, head_bytes, pair_bytes, task_bytes, t
 use Rattle.sheet.specs.Check.{Checked}
 use Rattle.sheet.specs.Check.{check, pairs_of}
 use Rattle.sheet.specs.Pairs.{Nested, named, own_tasks, pair_refusal, pairs, registered, rises}
-use Rattle.transfer.specs.declared.read.Reading.{Reading}
+use Rattle.transfer.specs.Reading.{Reading}
 use Rattle.transfer.specs.Reading.{reading}
 use Rattle.transfer.specs.RoundTrip.{Rising, components_bytes, entries_of, pairs_bytes, sheet_bytes}
 use Rattle.transfer.specs.Writing.{component_bytes, tasks_bytes}
 use Rattle.transfer.proofs.ReadsBack.{Fitting, pairs_are, reading_back, sheet_accepted}
-use Rattle.tree.specs.declared.answer.Outcome.{Outcome}
-use Rattle.tree.specs.declared.offer.Offer.{Offer}
+use Rattle.tree.specs.numbers.Outcome.{Outcome}
+use Rattle.tree.specs.numbers.Offer.{Offer}
 use Rattle.tree.specs.Offer.{offer_in, offer_of, offering}
 use Rattle.tree.specs.Outcome.{outcome_of}
 use Rattle.tree.specs.Tree.{load_at, offers_to, outcome_at}

@@ -18,7 +18,7 @@ use Rattle.record.specs.declared.layout.Pair.{Pair}
 use Rattle.record.specs.Field.{Bytes}
 use Rattle.sheet.specs.Check.{check, pairs_of}
 use Rattle.transfer.specs.Reading.{reading}
-use Rattle.tree.specs.declared.answer.Outcome.TheVariants as Outcome
+use Rattle.tree.specs.numbers.Outcome as Outcome
 use Rattle.tree.specs.Offer.{offer_of}
 use Rattle.tree.specs.Tree.{load_at, outcome_at}
 use Rattle.tree.specs.Workload.{ready}

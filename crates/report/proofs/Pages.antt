@@ -12,7 +12,7 @@ use Rattle.sheet.specs.Check.{Checked}
 use Rattle.sheet.specs.Check.{check}
 use Rattle.transfer.specs.Reading.{reading}
 use Rattle.record.proofs.StoreLaws.{sets_append}
-use Rattle.tree.specs.declared.answer.Outcome.{Outcome}
+use Rattle.tree.specs.numbers.Outcome.{Outcome}
 use Rattle.tree.specs.Tree.{outcome_at}
 use Rattle.report.specs.Lines.{component_line, end_line, refused_line}
 use Rattle.report.specs.Listing.{Listed, component_lines, listing_of}

@@ -4,7 +4,7 @@ use mathlib.Core.Path.{ap}
 use Rattle.record.specs.declared.layout.Pair.{Pair}
 use Rattle.sheet.specs.Pairs.{named}
 use Rattle.transfer.specs.Reading.{reading}
-use Rattle.tree.specs.declared.answer.Outcome.{Outcome}
+use Rattle.tree.specs.numbers.Outcome.{Outcome}
 use Rattle.tree.proofs.NoParentAlone.{no_parent_alone}
 use Rattle.report.specs.Lines.{component_line, outcome_fields}
 use Rattle.report.specs.Listing.{UnpairedAlone}

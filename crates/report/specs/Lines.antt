@@ -5,7 +5,7 @@ use Rattle.judge.specs.numbers.Answer.{Answer}
 use Rattle.judge.specs.numbers.Judged as Judged
 use Rattle.judge.specs.numbers.Margined.{Margined}
 use Rattle.judge.specs.declared.answer.Verdict.{Verdict}
-use Rattle.tree.specs.declared.answer.Outcome.{Outcome}
+use Rattle.tree.specs.numbers.Outcome.{Outcome}
 use Rattle.report.specs.Text.{decimal, signed_text, spaced}
 
 -- the fields behind a line's first, each behind a single space, and the newline

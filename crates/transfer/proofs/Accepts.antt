@@ -5,7 +5,7 @@ use mathlib.Core.Bool.{true, false, ◌&&◌}
 use mathlib.Core.List.{List, [], ◌∷◌, ◌++◌, append_assoc}
 use native.Mathlib.Omega.{arith}
 use lib.ListN.{length, get_or, drop, length-append}
-use lib.Seq.{drop_at, drop-drop}
+use lib.Seq.{drop_at, drop-drop, length-take-le}
 use lib.Dec.{ltb, eqb}
 use borrow.Author.Tests.{lt-leb, lt-ltb, le-ltb, ne_eqb}
 use Rattle.budget.specs.declared.component.Capacity.{Capacity}
@@ -14,7 +14,6 @@ use Rattle.budget.specs.declared.task.Task.{Task}
 use Rattle.budget.specs.Component.{units_of, interface_of, refused}
 use Rattle.budget.specs.Interface.{interface, interface_refusal, valid_interface}
 use Rattle.budget.specs.Task.{T, C, D, J, task_refusal, valid_task, valid_tasks, tasks_of}
-use Rattle.budget.proofs.Places.{places}
 use Rattle.budget.proofs.Ranges.{in_range}
 use Rattle.budget.proofs.Valid.{valid_task_lem, valid_interface_lem, both}
 use Rattle.record.specs.declared.layout.Pair.{Pair}
@@ -185,7 +184,7 @@ pub tasks_full : (c : Component) → Sound c → length (tasks_of c.table) ≡ c
 unfolding tasks_of
 tasks_full c sound =
     let range = in_range c sound.ranges in
-    places c.table.count c.table.tasks (omega (arith, range.count, sound.places))
+    length-take-le c.table.count c.table.tasks (omega (arith, range.count, sound.places))
 
 pub few_tasks : (c : Component) → Sound c → length (tasks_of c.table) ≤ 64
 few_tasks c sound = let f = tasks_full c sound in let range = in_range c sound.ranges in omega (arith, f, range.count)

@@ -1,9 +1,10 @@
--- What reading a pair answers, from a sheet's contents and the pairs read behind its last edge: these are the sheet's pairs, each at its place of the two rows.
+-- What reading a pair answers, from a sheet's contents and the pairs read behind its last edge: these are the sheet's pairs, each at its place.
 use Prim.Native.Nat.{ℕ, ◌-◌, ◌≤◌, ◌<◌}
 use mathlib.Core.Path.{◌≡◌, refl, sym, ap, ◌∙◌}
-use mathlib.Core.List.{List, ◌++◌, map}
+use mathlib.Core.List.{List}
 use native.Mathlib.Omega.{arith}
-use lib.ListN.{length, get_or, take, drop, replicate, length-map, get_or-append, get_or-map}
+use lib.ListN.{length, get_or, take, drop}
+use lib.Seq.{take_at}
 use borrow.Author.Tests.{lt-ltb, le-ltb, ne_eqb}
 use Rattle.record.specs.declared.layout.Pair.{Pair}
 use Rattle.sheet.specs.Check.{Checked}
@@ -12,16 +13,10 @@ use Rattle.sheet.specs.Check.{check, pairs_of}
 use Rattle.sheet.specs.Contents.{edge_of, contents_of}
 use Rattle.sheet.proofs.ContentsLaws.{taken, edges_are, edges_within}
 use Rattle.sheet.proofs.WalkLaws.{rest_is}
-use Rattle.transfer.specs.declared.pair.PairReading.{PairReading}
+use Rattle.transfer.specs.Pairing.{PairReading}
 use Rattle.transfer.specs.declared.pair.Pairs.{Pairs}
 use Rattle.transfer.specs.Pairing.{no_pair, pairs_in, pair_table, pair_reading}
 use Rattle.transfer.proofs.PairsBehind.{few_pairs, pairs_stand_behind}
-
--- a number of the pair at a place of its row
-row_at : (f : Pair → ℕ) (ps : List Pair) (zeros : List ℕ) (k : ℕ) → f no_pair ≡ 0 → k < length ps → get_or (map f ps ++ zeros) k 0 ≡ f (get_or ps k no_pair)
-row_at f ps zeros k z h =
-    let n : k < length (map f ps) = rw (length-map ps f) h in
-    get_or-append (map f ps) zeros 0 k n ∙ (ap (get_or (map f ps) k) (sym z) ∙ get_or-map f ps k no_pair)
 
 module _ (s : List ℕ) (found : Contents) (e : found ≡ contents_of s) where
   checked_is : found.checked ≡ check s
@@ -60,20 +55,19 @@ module _ (s : List ℕ) (found : Contents) (e : found ≡ contents_of s) where
       unfolding pair_table
       count_is = ap (λ (x : Pairs). x.count) table_is
 
-      pub pair_missing : (k : ℕ) → read.count ≤ k → ◌≡◌ {A = PairReading} (record { refusal = 15; place = 0; pair = no_pair }) (pair_reading s k)
+      -- the first places are the pairs
+      pub slice_is : take read.count read.pairs ≡ pairs_of s
+      unfolding pair_table
+      slice_is = ap (λ (x : Pairs). take x.count x.pairs) table_is ∙ take_at (pairs_of s) _ (length (pairs_of s)) refl
+
+      pub slice_few : length (take read.count read.pairs) ≤ 256
+      slice_few = rw slice_is (few_pairs s accepted)
+
+      pub pair_missing : (k : ℕ) → length (take read.count read.pairs) ≤ k → ◌≡◌ {A = PairReading} (record { refusal = 15; place = 0; pair = no_pair }) (pair_reading s k)
       unfolding pair_reading
-      pair_missing k h = rw (accepted, le-ltb k (length (pairs_of s)) (omega (arith, count_is)))
+      pair_missing k h = rw (accepted, le-ltb k (length (pairs_of s)) (rw slice_is at h))
 
-      pub place_few : (k : ℕ) → k < read.count → k < 256
-      place_few k h = omega (arith, count_is, few_pairs s accepted)
-
-      pub pair_found : (k : ℕ) → k < read.count
-          → ◌≡◌ {A = PairReading} (record { refusal = 0; place = 0; pair = record { child = get_or read.children k 0; parent = get_or read.parents k 0 } }) (pair_reading s k)
-      unfolding pair_reading pair_table
-      pair_found k h =
-          let ps = pairs_of s in
-          let zeros : List ℕ = replicate (256 - length ps) 0 in
-          let l : k < length ps = omega (arith, count_is) in
-          let c : get_or read.children k 0 ≡ (get_or ps k no_pair).child = ap (λ (x : Pairs). get_or x.children k 0) table_is ∙ row_at (λ (p : Pair). p.child) ps zeros k refl l in
-          let q : get_or read.parents k 0 ≡ (get_or ps k no_pair).parent = ap (λ (x : Pairs). get_or x.parents k 0) table_is ∙ row_at (λ (p : Pair). p.parent) ps zeros k refl l in
-          rw (accepted, lt-ltb k (length ps) l, c, q)
+      pub pair_found : (k : ℕ) (p : Pair) → k < length (take read.count read.pairs) → p ≡ get_or (take read.count read.pairs) k no_pair
+          → ◌≡◌ {A = PairReading} (record { refusal = 0; place = 0; pair = p }) (pair_reading s k)
+      unfolding pair_reading
+      pair_found k p h e = rw (accepted, lt-ltb k (length (pairs_of s)) (rw slice_is at h)) (ap (λ (x : Pair). record { refusal = 0; place = 0; pair = x }) (rw slice_is at e))

@@ -8,9 +8,15 @@ use lib.ListN.{length, get_or, take, drop, length-append}
 use lib.Seq.{append_snoc}
 use Rattle.budget.specs.declared.task.Table.{Table}
 use Rattle.budget.specs.declared.task.Task.{Task}
+use Rattle.budget.specs.Component.{refused}
 use Rattle.budget.specs.Task.{table_of, appended}
 use Rattle.budget.proofs.TableLaws.{append_returned}
-use Rattle.record.specs.Record.{Record, TaskRecord}
+use Rattle.record.specs.declared.layout.Head.{Head}
+use Rattle.record.specs.declared.layout.Record as code
+use Rattle.record.specs.declared.layout.Record.TheVariants as variant
+use Rattle.record.specs.Record.{said}
+use Rattle.record.specs.Record.{Record}
+use Rattle.record.specs.Record.{ComponentRecord, TaskRecord, PairRecord, EndRecord, NoRecord}
 use Rattle.record.specs.Layout.{size_of, record_of}
 use Rattle.sheet.specs.Check.{Checked}
 use Rattle.sheet.specs.Check.{check}
@@ -19,6 +25,33 @@ use Rattle.sheet.specs.Part.{part_check}
 use Rattle.sheet.proofs.PartLaws.{part_accepted, part_between}
 use Rattle.transfer.specs.Reading.{task_then, tasks_in, component_from, reading}
 use Rattle.transfer.proofs.RecordHere.{read_here, room_here, rest_here}
+
+-- a record that is no task ends them
+none_then : (r : Record) → ((stated : Bool) (k : Task) → r ≡ TaskRecord stated k → ⊥) → (ks : List Task) → task_then r ks ≡ []
+unfolding task_then
+none_then (TaskRecord stated k) h ks = absurd (h stated k refl)
+none_then (ComponentRecord c) h ks = refl
+none_then (PairRecord p) h ks = refl
+none_then (EndRecord count) h ks = refl
+none_then (NoRecord n) h ks = refl
+
+-- and so is a record of the code
+pub no_task_said : (r : code.Record) → ((stated : Bool) (k : Task) → r ≡ variant.Task stated k → ⊥) → (stated : Bool) (k : Task) → said r ≡ TaskRecord stated k → ⊥
+no_task_said (variant.Task s t) h stated k e = h s t refl
+no_task_said (variant.Component c) h stated k e = cc
+no_task_said (variant.Pair p) h stated k e = cc
+no_task_said (variant.End count) h stated k e = cc
+
+pub no_task_none : (n : ℕ) (stated : Bool) (k : Task) → NoRecord n ≡ TaskRecord stated k → ⊥
+no_task_none n stated k e = cc
+
+-- a part that does not begin with a component record
+pub no_component_said : (s : List ℕ) (r : code.Record) → ((h : Head) → r ≡ variant.Component h → ⊥) → refused ≡ component_from s (said r)
+unfolding component_from
+no_component_said s (variant.Component h) other = absurd (other h refl)
+no_component_said s (variant.Task stated k) other = refl
+no_component_said s (variant.Pair p) other = refl
+no_component_said s (variant.End count) other = refl
 
 pub record Taking (part : List ℕ) (start : ℕ) (table : Table) (place left : ℕ) : Type 0 where
   pub ks : List Task
@@ -57,11 +90,11 @@ module _ (part : List ℕ) (start : ℕ) where
     ended left w e = w.held ∙ ap table_of (sym (append-nil w.ks) ∙ (ap (λ (l : List Task). w.ks ++ l) (sym e) ∙ w.todo))
 
     -- a record that is no task ends them
-    pub taken_short : (left : ℕ) → Taking part start table place left → 0 < left → (r : Record) → r ≡ record_of (take (length part - place) (drop place part)) → ((ks : List Task) → task_then r ks ≡ [])
+    pub taken_short : (left : ℕ) → Taking part start table place left → 0 < left → (r : Record) → r ≡ record_of (take (length part - place) (drop place part)) → ((stated : Bool) (k : Task) → r ≡ TaskRecord stated k → ⊥)
         → table ≡ table_of (tasks_in 64 (drop start part))
     unfolding tasks_in
-    taken_short zero w h r e o = absurd (omega arith)
-    taken_short (suc m) w h r e o = ended (suc m) w (rw (read_here part place r e) (o _))
+    taken_short zero w h r e other = absurd (omega arith)
+    taken_short (suc m) w h r e other = ended (suc m) w (rw (read_here part place r e) (none_then r other _))
 
     pub taken : (left : ℕ) → Taking part start table place left → left ≤ 0 → table ≡ table_of (tasks_in 64 (drop start part))
     unfolding tasks_in

@@ -19,7 +19,7 @@ use Rattle.sheet.specs.Pairs.{Nested}
 use Rattle.sheet.specs.Part.{part_of}
 use Rattle.sheet.specs.Register.{Entry}
 use Rattle.sheet.proofs.PairLaws.{pair_taken}
-use Rattle.transfer.specs.declared.read.Reading.{Reading}
+use Rattle.transfer.specs.Reading.{Reading}
 use Rattle.transfer.specs.Pairing.{no_pair, pair_reading, pair_writing_refusal}
 use Rattle.transfer.specs.Reading.{reading}
 use Rattle.transfer.specs.RoundTrip.{components_bytes, pairs_bytes, sheet_bytes, Page, put, put_pair, close, put_all, put_pairs, write_all, readings, pair_readings, SameBytes, PartsRead, returned, Sound, Rising, entries_of, ReadBack, SameComponents}

@@ -20,7 +20,7 @@ use Rattle.sheet.specs.Part.{chosen, part_check}
 use Rattle.sheet.specs.Register.{Entry, walked, register_of}
 use Rattle.sheet.proofs.ContentsLaws.{taken}
 use Rattle.sheet.proofs.HeldLaws.{unrefused_short}
-use Rattle.transfer.specs.declared.read.Reading.{Reading}
+use Rattle.transfer.specs.Reading.{Reading}
 use Rattle.transfer.specs.Reading.{reading}
 use Rattle.transfer.specs.RoundTrip.{components_bytes, pairs_bytes, sheet_bytes, returned, entries_of}
 use Rattle.transfer.specs.Writing.{tasks_bytes}

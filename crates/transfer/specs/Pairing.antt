@@ -1,5 +1,5 @@
 -- Reading pairs and writing one (docs/RULES.md, 10 and 11).
-use Rattle.std.specs.Prelude.{ℕ, zero, suc, ◌-◌, cond, List, [], ◌∷◌, ◌++◌, map, ◌≡◌, length, get_or, drop, replicate, ltb, eqb}
+use Rattle.std.specs.Prelude.{ℕ, zero, suc, ◌-◌, cond, List, [], ◌∷◌, ◌++◌, ◌≡◌, length, get_or, drop, replicate, ltb, eqb, Result, Ok, Err}
 use Rattle.budget.specs.Refusal as refusal
 use Rattle.record.specs.declared.layout.Pair.{Pair}
 use Rattle.record.specs.Record.{Record, ComponentRecord, TaskRecord, PairRecord, EndRecord, NoRecord}
@@ -7,12 +7,23 @@ use Rattle.record.specs.Layout.{pair_bytes, size_of, record_of}
 use Rattle.record.specs.Writing.{room_refusal}
 use Rattle.sheet.specs.Check.{check, most_components, pairs_of}
 use Rattle.sheet.specs.Contents.{edge_of}
-use Rattle.transfer.specs.declared.pair.PairReading.{PairReading}
+use Rattle.sheet.specs.declared.fault.Fault.{Fault}
 use Rattle.transfer.specs.declared.pair.Pairs.{Pairs}
 
 -- stands for the pair that can't be answered
 abbrev pub no_pair : Pair
 no_pair = record { child = 0; parent = 0 }
+
+-- what reading a pair answers, in the numbers of RULES 12; refused: both numbers are 0
+pub record PairReading : Type 0 where
+  pub refusal : ℕ
+  pub place : ℕ
+  pub pair : Pair
+
+-- how the code's answer is read as such
+abbrev pub pair_reading_in : Result Pair Fault → PairReading
+pair_reading_in (Ok p) = record { refusal = refusal.none; place = 0; pair = p }
+pair_reading_in (Err f) = record { refusal = refusal.number_of f.refusal; place = f.place; pair = no_pair }
 
 -- a pair record's pair and those behind it; any other record ends them
 unfoldable pub pair_then : Record → List Pair → List Pair
@@ -27,12 +38,10 @@ unfoldable pub pairs_in : ℕ → List ℕ → List Pair
 pairs_in zero s = []
 pairs_in (suc n) s = pair_then (record_of s) (pairs_in n (drop (size_of (record_of s)) s))
 
--- pairs as they are returned, a row of children and one of parents, with zeros behind them; a sheet has fewer pairs than components, since each child
--- has one and the largest number is no child
+-- pairs as they are returned, with zeros behind them; a sheet has fewer pairs than components, since each child has one and the largest number is
+-- no child
 unfoldable pub pair_table : List Pair → Pairs
-pair_table ps =
-    let zeros : List ℕ = replicate (most_components - length ps) 0 in
-    record { count = length ps; children = map (λ p. p.child) ps ++ zeros; parents = map (λ p. p.parent) ps ++ zeros }
+pair_table ps = record { count = length ps; pairs = ps ++ replicate (most_components - length ps) no_pair }
 
 -- the pairs of an accepted sheet are those that stand behind its last component
 abbrev pub PairsStandBehind : Type 0

@@ -1,5 +1,5 @@
 -- Reading one component: its number and interface from its record, its tasks from the records behind it, and their common period.
-use Rattle.std.specs.Prelude.{ℕ, zero, suc, cond, List, [], ◌∷◌, drop, eqb}
+use Rattle.std.specs.Prelude.{ℕ, zero, suc, cond, List, [], ◌∷◌, drop, eqb, Result, Ok, Err}
 use Rattle.budget.specs.declared.component.Component.{Component}
 use Rattle.budget.specs.declared.task.Task.{Task}
 use Rattle.budget.specs.Common.{common_of}
@@ -11,7 +11,18 @@ use Rattle.record.specs.declared.layout.Head.{Head}
 use Rattle.record.specs.Record.{Record, ComponentRecord, TaskRecord, PairRecord, EndRecord, NoRecord}
 use Rattle.record.specs.Layout.{size_of, record_of}
 use Rattle.sheet.specs.Part.{part_check, part_of}
-use Rattle.transfer.specs.declared.read.Reading.{Reading}
+use Rattle.sheet.specs.declared.fault.Fault.{Fault}
+
+-- what a reading answers, in the numbers of RULES 12; refused: the component number 0, stated (1, 1, 1), without tasks, its common period 1
+pub record Reading : Type 0 where
+  pub refusal : ℕ
+  pub place : ℕ
+  pub component : Component
+
+-- how the code's answer is read as such
+abbrev pub reading_in : Result Component Fault → Reading
+reading_in (Ok c) = record { refusal = refusal.none; place = 0; component = c }
+reading_in (Err f) = record { refusal = refusal.number_of f.refusal; place = f.place; component = refused }
 
 -- a task record's task and those behind it; any other record ends them
 unfoldable pub task_then : Record → List Task → List Task

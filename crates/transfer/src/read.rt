@@ -2,26 +2,18 @@
 ghost use Rattle.std.specs.Prelude.{◌≡◌, ◌≤◌, length, drop};
 ghost use Rattle.budget.specs.Common.{common_of};
 ghost use Rattle.budget.specs.Task.{table_of, tasks_of};
-ghost use Rattle.record.specs.Layout.{size_of, record_of};
+ghost use Rattle.record.specs.Layout.{record_of};
 ghost use Rattle.transfer.specs.ReadAt.{part_at, read_at};
-ghost use Rattle.transfer.specs.Reading.{tasks_in, component_from, reading};
+ghost use Rattle.transfer.specs.Reading.{tasks_in, component_from, reading, reading_in};
 
 use budget::common::common_of;
 use budget::component::{Component, refused};
-use budget::refusal;
 use budget::task::{Table, append, no_tasks};
 use record::layout::{Head, Record, record_of};
 use record::write::size_of;
 use sheet::check::MOST_COMPONENTS;
+use sheet::fault::Fault;
 use sheet::part::locate;
-
-// What a reading answers; refused: the component number 0, stated (1, 1, 1), without tasks, its common period 1.
-#[derive(Clone, Copy)]
-pub struct Reading {
-    pub refusal: u16,
-    pub place: usize,
-    pub component: Component,
-}
 
 fn read_tasks(part: &[u8], start: usize) -> Table
     requires { start ≤ length part.now }
@@ -29,19 +21,15 @@ fn read_tasks(part: &[u8], start: usize) -> Table
 {
     let mut table = no_tasks();
     let mut place = start;
-    let mut left = Table::MOST;
-    while 0 < left {
-        let record = record_of(&part[place..]);
-        let task = match record {
-            Record::TaskRecord(_, task) => task,
-            Record::ComponentRecord(_) => return table,
-            Record::PairRecord(_) => return table,
-            Record::EndRecord(_) => return table,
-            Record::NoRecord(_) => return table,
+    for _read in 0..Table::MOST {
+        let Ok(record) = record_of(&part[place..]) else {
+            break;
+        };
+        let Record::Task { task, .. } = record else {
+            break;
         };
         table = append(table, task);
         place += size_of(record);
-        left -= 1;
     }
     table
 }
@@ -50,10 +38,12 @@ fn read_tasks(part: &[u8], start: usize) -> Table
 fn with_head(head: Head, table: Table) -> Component
     ensures { result ≡ record { number = head.number; period = head.period; capacity = head.capacity; deadline = head.deadline; common = common_of head.period.0 (tasks_of table); table = table } }
 {
-    let number = head.number;
-    let period = head.period;
-    let capacity = head.capacity;
-    let deadline = head.deadline;
+    let Head {
+        number,
+        period,
+        capacity,
+        deadline,
+    } = head;
     let common = common_of(period, table);
     Component {
         number,
@@ -65,62 +55,26 @@ fn with_head(head: Head, table: Table) -> Component
     }
 }
 
-fn component_with(part: &[u8], head: Head) -> Component
-    requires { size_of (Record.ComponentRecord head) ≤ length part.now }
-    ensures { result ≡ component_from part.now (Record.ComponentRecord head) }
-{
-    let size = size_of(Record::ComponentRecord(head));
-    let table = read_tasks(part, size);
-    with_head(head, table)
-}
-
-#[tactic(auto, unfolding(record::specs::Layout::size_of, crate::specs::Reading::component_from))]
-fn component_from(part: &[u8], record: Record) -> Component
-    requires { size_of «record» ≤ length part.now }
-    ensures { result ≡ component_from part.now «record» }
-{
-    match record {
-        Record::ComponentRecord(head) => component_with(part, head),
-        Record::TaskRecord(_, _) => refused(),
-        Record::PairRecord(_) => refused(),
-        Record::EndRecord(_) => refused(),
-        Record::NoRecord(_) => refused(),
-    }
-}
-
 // Reads the component of a part: its record, then the task records behind it. A part that does not begin with a component record
 // is read as the component of a refused reading.
 pub fn read_part(part: &[u8]) -> Component
     ensures { result ≡ component_from part.now (record_of part.now) }
 {
-    let record = record_of(part);
-    component_from(part, record)
+    let Ok(record) = record_of(part) else {
+        return refused();
+    };
+    let Record::Component(head) = record else {
+        return refused();
+    };
+    with_head(head, read_tasks(part, size_of(record)))
 }
 
 // Reads the component at a place of a sheet: the sheet's refusal, then 15 where none stands there.
-pub fn read_component(sheet: &[u8], place: usize) -> Reading
-    ensures { result ≡ reading sheet.now place }
+pub fn read_component(sheet: &[u8], place: usize) -> Result<Component, Fault>
+    ensures { reading_in result ≡ reading sheet.now place }
 {
-    let found = locate(sheet, place);
-    let checked = found.checked;
-    let number = checked.refusal;
-    if number != refusal::NONE {
-        let component = refused();
-        return Reading {
-            refusal: number,
-            place: checked.place,
-            component,
-        };
-    }
-    let span = found.span;
-    let from = span.from;
-    let to = span.to;
-    let component = read_part(&sheet[from..to]);
-    Reading {
-        refusal: number,
-        place: checked.place,
-        component,
-    }
+    let found = locate(sheet, place)?;
+    Ok(read_part(&sheet[found.span.from..found.span.to]))
 }
 
 // The part of a sheet between two edges that are known, without another walk. Edges that do not lie in the sheet in their order hold an empty one.
@@ -132,13 +86,7 @@ pub fn part_at<'a>(sheet: &'a [u8], edges: &[usize; 257], place: usize) -> &'a [
     }
     let from = edges[place];
     let to = edges[place + 1];
-    if to < from {
-        return &sheet[..0];
-    }
-    if sheet.len() < to {
-        return &sheet[..0];
-    }
-    &sheet[from..to]
+    sheet.get(from..to).unwrap_or(&sheet[..0])
 }
 
 // Reads the component at a place of a sheet whose edges are known.
@@ -146,6 +94,5 @@ pub fn part_at<'a>(sheet: &'a [u8], edges: &[usize; 257], place: usize) -> &'a [
 pub fn read_at(sheet: &[u8], edges: &[usize; 257], place: usize) -> Component
     ensures { result ≡ read_at sheet.now edges.now place }
 {
-    let part = part_at(sheet, edges, place);
-    read_part(part)
+    read_part(part_at(sheet, edges, place))
 }

@@ -5,11 +5,13 @@ use native.Mathlib.Nat.{le_refl}
 use native.Mathlib.Numerals.{add-one}
 use native.Mathlib.Omega.{arith}
 use mathlib.Core.Bool.{Bool, true, false, cond, ◌||◌, or_assoc, or-false, or-true, true≢false}
-use mathlib.Core.List.{List, [], ◌∷◌, ◌++◌}
+use mathlib.Core.List.{List, [], ◌∷◌, ◌++◌, reverse}
 use mathlib.Core.Path.{◌≡◌, refl, sym, ap, ap₂, ◌∙◌}
 use lib.Dec.{eqb}
-use lib.ListN.{length, get_or, take, drop, set, drop_of_length-le}
-use lib.Seq.{drop-cons, take-suc-set}
+use lib.ListN.{length, get_or, drop, drop_of_length-le}
+use lib.Seq.{drop-cons}
+use Rattle.std.specs.List.{list_any}
+use Rattle.std.specs.Prelude.{nat_eq}
 use borrow.Author.Tests.{eqb-true, eq-eqb}
 use Rattle.budget.specs.declared.component.Component.{Component}
 use Rattle.judge.specs.numbers.Judged.{Judged}
@@ -17,27 +19,24 @@ use Rattle.judge.specs.numbers.Judged.{Refused, Answered}
 use Rattle.judge.specs.declared.answer.Verdict.TheVariants as Verdict
 use Rattle.record.specs.declared.layout.Pair.{Pair}
 use Rattle.record.proofs.Cases.{cases, either}
-use Rattle.tree.specs.declared.answer.Outcome.{Outcome}
-use Rattle.tree.specs.declared.offer.Offer.{Offer}
+use Rattle.tree.specs.numbers.Outcome.{Outcome}
+use Rattle.tree.specs.numbers.Offer.{Offer}
 use Rattle.tree.specs.Offer.{offering, offered_on, offer_of, offer_in}
 use Rattle.tree.specs.Outcome.{outcome_of}
 use Rattle.tree.specs.Workload.{children, load_on}
+use Rattle.std.proofs.lemmas.List.{get_or-reverse, length-reverse}
 use Rattle.tree.specs.inner.Below.{holds, wanted_of, outcome_wanted, offers_below}
-use Rattle.tree.proofs.OfferLaws.{pairs_after, pairs_at, children_end}
 
 -- ---- rows of numbers
 
 or_left : (a b : Bool) → a ≡ true → (a || b) ≡ true
 or_left a b e = rw e
 
--- from a place on: the number there, and those from the next place on
-pub holds_at : (ms : List ℕ) (i n : ℕ) → i < length ms → holds (drop i ms) n ≡ (eqb (get_or ms i 0) n || holds (drop (i + 1) ms) n)
+-- a row that is searched says whether a number stands in it
+pub contained : (ms : List ℕ) (n : ℕ) → list_any (λ (m : ℕ). nat_eq m n) ms ≡ holds ms n
 unfolding holds
-holds_at ms i n h = rw (add-one i, drop-cons ms i 0 h)
-
-pub holds_end : (ms : List ℕ) (i n : ℕ) → length ms ≤ i → holds (drop i ms) n ≡ false
-unfolding holds
-holds_end ms i n h = rw (drop_of_length-le ms {i = i} h)
+contained [] n = refl
+contained (m ∷ ms) n = ap (λ (b : Bool). eqb m n || b) (contained ms n)
 
 -- one number more
 pub holds_more : (ms : List ℕ) (m n : ℕ) → holds (ms ++ (m ∷ [])) n ≡ (holds ms n || eqb m n)
@@ -95,23 +94,29 @@ asked_wanted (p ∷ ps) n =
     let later = wanted_of ps n in
     cases (λ (ws : List ℕ). holds ws n ≡ true) (holds later p.parent) (λ e. holds_still later p.child n (asked_wanted ps n)) (λ e. asked_wanted ps n)
 
--- the row of wanted numbers as the pairs are gone through from the last to the first: pair i - 1 comes next
-module _ (cs ps : List ℕ) (n i : ℕ) (some : 0 < i) (hc : i ≤ length cs) (hp : i ≤ length ps) where
-  pair_before : pairs_after cs ps (i - 1) ≡ record { child = get_or cs (i - 1) 0; parent = get_or ps (i - 1) 0 } ∷ pairs_after cs ps i
-  pair_before = let e : i - 1 + 1 ≡ i = omega arith in pairs_at cs ps (i - 1) (omega arith) (omega arith) ∙ rw e
+-- the wanted numbers as the pairs are gone through from the last to the first: after m turns p comes next
+module _ (ps : List Pair) (n m : ℕ) (p : Pair) (turn : (m < length (reverse ps)) × (p ≡ get_or (reverse ps) m p)) (later : List ℕ) (w : later ≡ wanted_of (drop (length ps - m) ps) n) where
+  inside : m < length ps
+  inside = omega (arith, length-reverse ps, turn.0)
 
-  module _ (row : List ℕ) (count : ℕ) (w : take count row ≡ wanted_of (pairs_after cs ps i) n) where
-    pub wanting_more : count < length row → holds (take count row) (get_or ps (i - 1) 0) ≡ true → take (count + 1) (set row count (get_or cs (i - 1) 0)) ≡ wanted_of (pairs_after cs ps (i - 1)) n
-    unfolding wanted_of
-    wanting_more room h = rw (pair_before, ← w, h, add-one count) (take-suc-set row count _ room)
+  here : drop (length ps - (m + 1)) ps ≡ p ∷ drop (length ps - m) ps
+  here =
+      let next : suc (length ps - (m + 1)) ≡ length ps - m = omega (arith, inside) in
+      let last : length ps - 1 - m ≡ length ps - (m + 1) = omega arith in
+      let is : p ≡ get_or ps (length ps - (m + 1)) p = turn.1 ∙ (get_or-reverse ps m p inside ∙ ap (λ (j : ℕ). get_or ps j p) last) in
+      drop-cons ps (length ps - (m + 1)) p (omega (arith, inside)) ∙ ap₂ (λ (q : Pair) (l : List Pair). q ∷ l) (sym is) (ap (λ (j : ℕ). drop j ps) next)
 
-    pub wanting_same : holds (take count row) (get_or ps (i - 1) 0) ≡ false → take count row ≡ wanted_of (pairs_after cs ps (i - 1)) n
-    unfolding wanted_of
-    wanting_same h = rw (pair_before, ← w, h)
+  pub wanting_more : holds later p.parent ≡ true → later ++ (p.child ∷ []) ≡ wanted_of (drop (length ps - (m + 1)) ps) n
+  unfolding wanted_of
+  wanting_more h = let g = rw w at h in rw (here, w, g)
 
-pub wanting_none : (cs ps : List ℕ) (n : ℕ) (row : List ℕ) → 0 < length row → take 1 (set row 0 n) ≡ wanted_of (pairs_after cs ps (length cs)) n
+  pub wanting_same : holds later p.parent ≡ false → later ≡ wanted_of (drop (length ps - (m + 1)) ps) n
+  unfolding wanted_of
+  wanting_same h = let g = rw w at h in rw (here, w, g)
+
+pub wanting_none : (ps : List Pair) (n : ℕ) → n ∷ [] ≡ wanted_of (drop (length ps) ps) n
 unfolding wanted_of
-wanting_none cs ps n row h = rw (children_end cs ps (length cs) (le_refl (length cs))) (take-suc-set row 0 n h)
+wanting_none ps n = rw (drop_of_length-le ps {i = length ps} (le_refl (length ps)))
 
 -- ---- offers that agree where a number is wanted
 

@@ -33,8 +33,8 @@ use Rattle.sheet.specs.Walk.{step, walk, held}
 use Rattle.transfer.specs.Reading.{reading, component_from, with_head, tasks_in, task_then}
 use Rattle.transfer.specs.RoundTrip.{sheet_bytes, components_bytes, pairs_bytes}
 use Rattle.transfer.specs.Writing.{component_bytes, tasks_bytes}
-use Rattle.tree.specs.declared.answer.Outcome.TheVariants as Outcome
-use Rattle.tree.specs.declared.place.Placed.TheVariants as Placed
+use Rattle.tree.specs.numbers.Outcome as Outcome
+use Rattle.tree.specs.numbers.Placed as Placed
 use Rattle.tree.specs.Offer.{offer_in, offer_of}
 use Rattle.tree.specs.Outcome.{outcome_of}
 use Rattle.tree.specs.Tree.{placing, outcome_at, load_at, offers_to}

@@ -6,6 +6,7 @@ pub mod Pass
 pub mod NumberLaws
 pub mod WorkloadFits
 pub mod NoParentAlone
+pub mod Accepted
 pub mod OnlyLong
 pub mod Figures
 pub mod WorkloadCommon

@@ -9,8 +9,8 @@ use Rattle.budget.proofs.CommonLaws.{refused_right, with_tasks_right}
 use Rattle.record.specs.declared.layout.Pair.{Pair}
 use Rattle.record.proofs.Cases.{cases}
 use Rattle.transfer.specs.Reading.{reading}
-use Rattle.tree.specs.declared.answer.Load.{Load}
-use Rattle.tree.specs.declared.offer.Offer.{Offer}
+use Rattle.tree.specs.numbers.Load.{Load}
+use Rattle.tree.specs.numbers.Offer.{Offer}
 use Rattle.tree.specs.Tree.{load_at, loading}
 use Rattle.tree.specs.Workload.{all_offered, children, load_on}
 

@@ -16,7 +16,7 @@ use Rattle.sheet.specs.Pairs.{named}
 use Rattle.transfer.specs.Reading.{reading}
 use Rattle.transfer.specs.RoundTrip.{returned}
 use Rattle.transfer.proofs.Sheet.{Sheet, accepted_sheet, returned_at}
-use Rattle.tree.specs.declared.offer.Offer.{Offer}
+use Rattle.tree.specs.numbers.Offer.{Offer}
 use Rattle.tree.specs.Nested.{NoParentAlone, children_at}
 use Rattle.tree.specs.Outcome.{outcome_of}
 use Rattle.tree.specs.Tree.{load_at, outcome_at}

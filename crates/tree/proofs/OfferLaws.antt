@@ -1,58 +1,74 @@
--- Offers and pairs held in rows: what the row of offers says from a place on is the offer there and what it says from the next on; four numbers more
--- at its end are one offer more; and the rows of a table of pairs say those pairs.
-use Prim.Native.Nat.{ℕ, suc, ◌+◌, ◌*◌, ◌-◌, ◌≤◌, ◌<◌}
-use native.Mathlib.Numerals.{add-one}
+-- Offers in rows: a row of offers stands for a row of numbers, four each, place by place; four numbers more at its end are one offer more; and the
+-- offer that is found for a number is the first of that number.
+use Prim.Native.Nat.{ℕ, zero, suc, ◌+◌, ◌*◌, ◌-◌, ◌<◌}
 use native.Mathlib.Omega.{arith}
-use mathlib.Core.Path.{◌≡◌, refl, ap, ap₂, ◌∙◌}
+use mathlib.Core.Path.{◌≡◌, refl, ap, ◌∙◌}
+use mathlib.Core.Bool.{Bool, true, false, cond}
 use mathlib.Core.List.{List, [], ◌∷◌, ◌++◌, map}
-use lib.ListN.{length, get_or, take, drop, drop_of_length-le, length-append, length-drop, length-map}
-use lib.Seq.{drop-cons, sets, sets-eq, length-sets, take_at, length-take-le}
-use borrow.Author.Tests.{eq-eqb, ne_eqb}
-use Rattle.record.specs.declared.layout.Pair.{Pair}
-use Rattle.tree.specs.declared.offer.Offer.{Offer}
-use Rattle.tree.specs.Offer.{no_offer, noted, offer_in, offers_in}
-use Rattle.tree.specs.Workload.{pairs_from}
+use lib.Dec.{eqb}
+use lib.ListN.{length, take, set, length-append}
+use lib.Seq.{sets, sets-eq, length-sets, take_at, length-take-le}
+use Rattle.std.specs.List.{find}
+use Rattle.std.specs.Prelude.{Option, Some, None}
+use Rattle.budget.specs.declared.quantity.Units.{Units}
+use Rattle.tree.specs.declared.offer.Offer as code
+use Rattle.tree.specs.numbers.Offer.{Offer}
+use Rattle.tree.specs.Offer.{no_offer, withheld, noted, offer_in, offered_in, offers_in, row_in}
 
--- ---- offers from a place on
+-- ---- a row of offers as one of numbers
 
--- the offer noted at a place
-abbrev pub offer_at : List ℕ → ℕ → Offer
-offer_at xs i = record { number = get_or xs i 0; capacity = get_or xs (i + 1) 0; period = get_or xs (i + 2) 0; deadline = get_or xs (i + 3) 0 }
+pub row_says : (os : List code.Offer) → offers_in (row_in os) ≡ map offered_in os
+unfolding offers_in row_in
+row_says [] = refl
+row_says (o ∷ os) = ap (λ (l : List Offer). offered_in o ∷ l) (row_says os)
 
-pub offers_at : (xs : List ℕ) (i : ℕ) → i + 4 ≤ length xs → offers_in (drop i xs) ≡ offer_at xs i ∷ offers_in (drop (i + 4) xs)
-unfolding offers_in
-offers_at xs i h =
-    let two : i + 2 ≡ suc (suc i) = omega arith in
-    let three : i + 3 ≡ suc (suc (suc i)) = omega arith in
-    let four : i + 4 ≡ suc (suc (suc (suc i))) = omega arith in
-    rw (add-one i, two, three, four, drop-cons xs i 0 (omega arith), drop-cons xs (suc i) 0 (omega arith), drop-cons xs (suc (suc i)) 0 (omega arith), drop-cons xs (suc (suc (suc i))) 0 (omega arith))
+pub row_length : (os : List code.Offer) → length (row_in os) ≡ 4 * length os
+unfolding row_in
+row_length [] = refl
+row_length (o ∷ os) = omega (arith, row_length os)
 
--- fewer than four numbers are no offer
-few : (xs : List ℕ) → length xs < 4 → offers_in xs ≡ []
-unfolding offers_in
-few [] h = refl
-few (n ∷ []) h = refl
-few (n ∷ q ∷ []) h = refl
-few (n ∷ q ∷ p ∷ []) h = refl
-few (n ∷ q ∷ p ∷ d ∷ xs) h = absurd (omega arith)
+pub row_front : (k : ℕ) (os : List code.Offer) → take (4 * k) (row_in os) ≡ row_in (take k os)
+unfolding row_in
+row_front zero os = refl
+row_front (suc k) [] = let e : 4 * suc k ≡ suc (4 * k + 3) = omega arith in rw e
+row_front (suc k) (o ∷ os) =
+    let e : 4 * suc k ≡ suc (suc (suc (suc (4 * k)))) = omega arith in
+    rw e (ap (λ (l : List ℕ). noted (offered_in o) ++ l) (row_front k os))
 
-pub offers_end : (xs : List ℕ) (i : ℕ) → length xs - i < 4 → offers_in (drop i xs) ≡ []
-offers_end xs i h = few (drop i xs) (omega (arith, length-drop i xs))
+-- what the first offers of the row say
+pub row_before : (k : ℕ) (os : List code.Offer) → offers_in (take (4 * k) (row_in os)) ≡ map offered_in (take k os)
+row_before k os = ap offers_in (row_front k os) ∙ row_says (take k os)
+
+pub row_set : (k : ℕ) (os : List code.Offer) (o : code.Offer) → k < length os → row_in (set os k o) ≡ sets (row_in os) (4 * k) (noted (offered_in o))
+unfolding row_in
+row_set k [] o h = absurd (omega arith)
+row_set zero (p ∷ os) o h = refl
+row_set (suc k) (p ∷ os) o h =
+    let e : 4 * suc k ≡ suc (suc (suc (suc (4 * k)))) = omega arith in
+    rw e (ap (λ (l : List ℕ). noted (offered_in p) ++ l) (row_set k os o (omega arith)))
 
 -- ---- the first offer of a number
 
-module _ (os rest : List Offer) (o : Offer) (n : ℕ) (here : os ≡ o ∷ rest) where
-  pub found_here : o.number ≡ n → offer_in os n ≡ o
-  unfolding offer_in
-  found_here e = rw (here, eq-eqb o.number n e)
+-- what is said of an offer that is found, or of none
+abbrev pub found : Option code.Offer → Offer
+found None = no_offer
+found (Some o) = offered_in o
 
-  pub found_later : (o.number ≡ n → ⊥) → offer_in os n ≡ offer_in rest n
-  unfolding offer_in
-  found_later e = rw (here, ne_eqb o.number n e)
+found_by : (b : Bool) (o : code.Offer) (x : Offer) (r : Option code.Offer) → x ≡ found r → cond b (offered_in o) x ≡ found (cond b (Some o) r)
+found_by true o x r e = refl
+found_by false o x r e = e
 
-pub found_none : (os : List Offer) (n : ℕ) → os ≡ [] → offer_in os n ≡ no_offer
+pub found_is : (os : List code.Offer) (n : ℕ) → offer_in (map offered_in os) n ≡ found (find (λ (o : code.Offer). eqb o.number n) os)
 unfolding offer_in
-found_none os n e = rw e
+found_is [] n = refl
+found_is (o ∷ os) n = found_by (eqb o.number n) o _ _ (found_is os n)
+
+-- an offer with a capacity is not withheld
+pub told_some : (o : code.Offer) (u : Units) → o.capacity ≡ Some u → (offered_in o).capacity ≡ withheld → ⊥
+told_some o u e h =
+    let t : u.0 < withheld = rw e at o.told in
+    let n : u.0 ≡ withheld = rw e at h in
+    omega arith
 
 -- ---- one offer more
 
@@ -81,38 +97,3 @@ row_more {xs} {k} {os} r h o {after} e =
     let long : length zs ≡ 4 * k = length-take-le (4 * k) xs (omega (arith, r.places)) in
     let first : take (4 * (k + 1)) after ≡ zs ++ noted o = ap (take (4 * (k + 1))) (e ∙ sets-eq (noted o) xs (4 * k) (omega (arith, r.places))) ∙ take_at (zs ++ noted o) _ (4 * (k + 1)) (omega (arith, long, length-append zs (noted o))) in
     record { places = ap length e ∙ length-sets xs (4 * k) (noted o) ∙ r.places; held = ap offers_in first ∙ snoc zs k long o ∙ ap (λ (l : List Offer). l ++ (o ∷ [])) r.held }
-
--- ---- pairs
-
--- the pairs from a place on
-abbrev pub pairs_after : List ℕ → List ℕ → ℕ → List Pair
-pairs_after cs ps i = pairs_from (drop i cs) (drop i ps)
-
-pub pairs_at : (cs ps : List ℕ) (i : ℕ) → i < length cs → i < length ps
-    → pairs_after cs ps i ≡ record { child = get_or cs i 0; parent = get_or ps i 0 } ∷ pairs_after cs ps (i + 1)
-unfolding pairs_from
-pairs_at cs ps i hc hp = rw (add-one i, drop-cons cs i 0 hc, drop-cons ps i 0 hp)
-
-no_parents : (cs : List ℕ) → pairs_from cs [] ≡ []
-unfolding pairs_from
-no_parents [] = refl
-no_parents (c ∷ cs) = refl
-
-pub children_end : (cs ps : List ℕ) (i : ℕ) → length cs ≤ i → pairs_after cs ps i ≡ []
-unfolding pairs_from
-children_end cs ps i h = rw (drop_of_length-le cs {i = i} h)
-
-pub parents_end : (cs ps : List ℕ) (i : ℕ) → length ps ≤ i → pairs_after cs ps i ≡ []
-parents_end cs ps i h = rw (drop_of_length-le ps {i = i} h) (no_parents _)
-
-rows_say : (ps : List Pair) → pairs_from (map (λ p. p.child) ps) (map (λ p. p.parent) ps) ≡ ps
-unfolding pairs_from
-rows_say [] = refl
-rows_say (p ∷ ps) = ap (λ (l : List Pair). p ∷ l) (rows_say ps)
-
--- the first places of rows that hold these pairs and anything behind them
-pub pairs_of_rows : (ps : List Pair) (xs ys : List ℕ)
-    → pairs_from (take (length ps) (map (λ p. p.child) ps ++ xs)) (take (length ps) (map (λ p. p.parent) ps ++ ys)) ≡ ps
-pairs_of_rows ps xs ys =
-    ap₂ pairs_from (take_at (map (λ p. p.child) ps) xs (length ps) (length-map ps (λ p. p.child))) (take_at (map (λ p. p.parent) ps) ys (length ps) (length-map ps (λ p. p.parent)))
-    ∙ rows_say ps

@@ -8,13 +8,10 @@ use mathlib.Core.Path.{◌≡◌, refl, sym, subst, ◌∙◌}
 use lib.Dec.{leb, eqb}
 use lib.ListN.{length, take}
 use lib.Seq.{take_all}
-use borrow.Author.Tests.{leb-true, eqb-false, not-true}
-use Rattle.budget.specs.declared.component.Capacity.{Capacity}
-use Rattle.budget.specs.declared.component.Capacity.TheVariants.{Stated, Asked}
+use borrow.Author.Tests.{eqb-false, not-true}
 use Rattle.budget.specs.declared.component.Component.{Component}
-use Rattle.budget.specs.declared.quantity.Units.{Units}
 use Rattle.budget.specs.declared.task.Task.{Task}
-use Rattle.budget.specs.Component.{Right, common_period_of, component_refusal, interface_of, units_of, with_tasks}
+use Rattle.budget.specs.Component.{Right, common_period_of, interface_of, with_tasks}
 use Rattle.budget.specs.Interface.{valid_interface}
 use Rattle.budget.specs.Limits.{limit, most_tasks}
 use Rattle.budget.specs.Refusal as refusal
@@ -26,8 +23,7 @@ use Rattle.budget.proofs.Valid.{and_true, both, task_valid, valid_interface_lem}
 use Rattle.judge.specs.numbers.Judged.{Judged}
 use Rattle.judge.specs.numbers.Judged.{Refused, Answered}
 use Rattle.judge.specs.declared.answer.Verdict.{Verdict}
-use Rattle.judge.specs.Capacity.{capacity_of}
-use Rattle.judge.specs.Judged.{judged_at, verdict_answer}
+use Rattle.judge.specs.Judged.{verdict_answer}
 use Rattle.record.specs.declared.layout.Pair.{Pair}
 use Rattle.record.specs.Field.{Bytes}
 use Rattle.record.proofs.Cases.{cases, either}
@@ -35,56 +31,16 @@ use Rattle.sheet.specs.Check.{check, pairs_of}
 use Rattle.transfer.specs.Reading.{reading}
 use Rattle.transfer.proofs.ReadsBack.{sound_at}
 use Rattle.transfer.proofs.Sheet.{accepted_sheet}
-use Rattle.tree.specs.declared.answer.Load.{Load}
-use Rattle.tree.specs.declared.answer.Outcome.{Outcome}
-use Rattle.tree.specs.declared.offer.Offer.{Offer}
+use Rattle.tree.specs.numbers.Load.{Load}
+use Rattle.tree.specs.numbers.Outcome.{Outcome}
+use Rattle.tree.specs.numbers.Offer.{Offer}
 use Rattle.tree.specs.Nested.{OnlyLong, children_at}
 use Rattle.tree.specs.Offer.{as_task, offered_on, offer_of, offer_in, withheld}
 use Rattle.tree.specs.Outcome.{outcome_of}
 use Rattle.tree.specs.Tree.{load_at, offers_to, outcome_at}
 use Rattle.tree.specs.Workload.{all_offered, children, load_on, ready, tasks_from, waiting, workload}
+use Rattle.tree.proofs.Accepted.{accepted_within, refused_number}
 use Rattle.tree.proofs.WorkloadFits.{workload_fits}
-
--- ---- what the judge answers
-
-answer_not : (u : Units) (v : Verdict) (n : ℕ) → Answered u v ≡ Refused n → ⊥
-answer_not u v n e = let z : ◌≡◌ {A = ℕ} 0 1 = cc in omega arith
-
-judged_not : (c : Component) (q : Capacity) (n : ℕ) → judged_at c q ≡ Refused n → ⊥
-unfolding judged_at
-judged_not c (Stated u) n = answer_not _ _ n
-judged_not c Asked n = cases (λ (x : Judged). x ≡ Refused n → ⊥) (leb (capacity_of c) c.deadline.0) (λ p. answer_not _ _ n) (λ p. answer_not _ _ n)
-
--- the judge refuses a component with the component's own refusal
-refused_number : (c : Component) (n : ℕ) → verdict_answer c ≡ Refused n → (component_refusal c ≡ n) × (component_refusal c ≡ refusal.none → ⊥)
-unfolding verdict_answer
-refused_number c n =
-    cases (λ (x : Judged). x ≡ Refused n → (component_refusal c ≡ n) × (component_refusal c ≡ refusal.none → ⊥))
-    (eqb (component_refusal c) refusal.none)
-    (λ p e. absurd (judged_not c c.capacity n e))
-    (λ p e. (cc, eqb-false (component_refusal c) 0 p))
-
-none_accepted : (u q : Units) → Answered u Verdict.None ≡ Answered q Verdict.Accepted → ⊥
-none_accepted u q e = let z : ◌≡◌ {A = ℕ} 0 1 = cc in omega arith
-
-same_units : (u q : Units) (v : Verdict) → Answered u v ≡ Answered q Verdict.Accepted → u.0 ≡ q.0
-same_units u q v e = cc
-
--- an accepted capacity lies within the deadline, stated or found
-judged_within : (c : Component) (a : Capacity) → units_of a ≤ c.deadline.0 → (q : Units) → judged_at c a ≡ Answered q Verdict.Accepted → q.0 ≤ c.deadline.0
-unfolding judged_at
-judged_within c (Stated u) h q = λ e. subst (λ (n : ℕ). n ≤ c.deadline.0) (same_units u q _ e) h
-judged_within c Asked h q =
-    cases (λ (x : Judged). x ≡ Answered q Verdict.Accepted → q.0 ≤ c.deadline.0) (leb (capacity_of c) c.deadline.0)
-    (λ p e. subst (λ (n : ℕ). n ≤ c.deadline.0) (same_units _ q _ e) (leb-true _ _ p))
-    (λ p e. absurd (none_accepted _ q e))
-
-accepted_within : (c : Component) → valid_interface (interface_of c) ≡ true → (q : Units) → verdict_answer c ≡ Answered q Verdict.Accepted → q.0 ≤ c.deadline.0
-unfolding verdict_answer interface_of
-accepted_within c v q =
-    cases (λ (x : Judged). x ≡ Answered q Verdict.Accepted → q.0 ≤ c.deadline.0) (eqb (component_refusal c) refusal.none)
-    (λ p e. judged_within c c.capacity (valid_interface_lem _ v).fits q e)
-    (λ p e. absurd (answer_not q Verdict.Accepted (component_refusal c) (sym e)))
 
 -- ---- offers in their ranges
 

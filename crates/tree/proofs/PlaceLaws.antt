@@ -6,7 +6,7 @@ use mathlib.Core.Bool.{true}
 use mathlib.Core.List.{List, [], ◌∷◌, ◌++◌}
 use mathlib.Core.Path.{◌≡◌, refl, sym, ap, ◌∙◌}
 use lib.Dec.{ltb}
-use lib.ListN.{length, get_or, take, drop, replicate}
+use lib.ListN.{length, get_or, take, drop}
 use borrow.Author.Tests.{ltb-true, le-ltb, ne_eqb}
 use Rattle.budget.specs.declared.component.Component.{Component}
 use Rattle.budget.specs.Component.{refused}
@@ -27,19 +27,18 @@ use Rattle.transfer.specs.declared.pair.Pairs.{Pairs}
 use Rattle.transfer.specs.Pairing.{pairs_in, pair_table}
 use Rattle.transfer.specs.ReadAt.{read_at}
 use Rattle.transfer.specs.Reading.{reading}
-use Rattle.transfer.proofs.PairReads.{table_is}
-use Rattle.transfer.proofs.PairsBehind.{accepted_pairs, few_pairs, walked_pairs}
+use Rattle.transfer.proofs.PairReads.{slice_few, slice_is}
+use Rattle.transfer.proofs.PairsBehind.{accepted_pairs, walked_pairs}
 use Rattle.transfer.proofs.ReadAt.{read_at_reads}
-use Rattle.tree.specs.declared.answer.Load.{Load}
-use Rattle.tree.specs.declared.answer.Outcome.{Outcome}
-use Rattle.tree.specs.declared.place.Loaded.{Loaded}
-use Rattle.tree.specs.declared.place.Placed.TheVariants as Placed
+use Rattle.tree.specs.numbers.Load.{Load}
+use Rattle.tree.specs.numbers.Outcome.{Outcome}
+use Rattle.tree.specs.numbers.Loaded.{Loaded}
+use Rattle.tree.specs.numbers.Placed as Placed
 use Rattle.tree.specs.Outcome.{outcome_of}
 use Rattle.tree.specs.Tree.{offers_to, load_at, outcome_at, loading, placing}
-use Rattle.tree.specs.Workload.{load_on, pairs_from, ready}
+use Rattle.tree.specs.Workload.{load_on, ready}
 use Rattle.tree.specs.inner.Below.{wanted_of, offers_below}
 use Rattle.tree.proofs.BelowLaws.{Ordered, Judging, wanted_closed, asked_wanted, load_below}
-use Rattle.tree.proofs.OfferLaws.{pairs_of_rows}
 
 -- pairs that the rules take rise by their children, and each parent is larger
 ordered_behind : (es : List Entry) (before ps : List Pair) (lowest : ℕ) → Nested es before ps → ((n : ℕ) → rises before n ≡ true → lowest ≤ n) → Ordered lowest ps
@@ -113,18 +112,14 @@ module _ (s : List ℕ) (found : Contents) (e : found ≡ contents_of s) (k : �
 
     -- the pairs that are read behind the last edge
     module _ (read : Pairs) (r : read ≡ pair_table (pairs_in 256 (take (length s - from) (drop from s)))) where
-      pub pairs_few : read.count ≤ 256
-      unfolding pair_table
-      pairs_few = rw (ap (λ (x : Pairs). x.count) (table_is s found e z read r)) (few_pairs s accepted)
+      pub pairs_few : length (take read.count read.pairs) ≤ 256
+      pairs_few = slice_few s found e z read r
 
-      abbrev pub rows : List Pair
-      rows = pairs_from (take read.count read.children) (take read.count read.parents)
+      abbrev pub pairs : List Pair
+      pairs = take read.count read.pairs
 
-      rows_are : rows ≡ pairs_of s
-      unfolding pair_table
-      rows_are =
-          ap (λ (x : Pairs). pairs_from (take x.count x.children) (take x.count x.parents)) (table_is s found e z read r)
-          ∙ pairs_of_rows (pairs_of s) (replicate (256 - length (pairs_of s)) 0) (replicate (256 - length (pairs_of s)) 0)
+      pairs_are : pairs ≡ pairs_of s
+      pairs_are = slice_is s found e z read r
 
       module _ (h : k < found.checked.count) (c : Component) (is : c ≡ read_at s found.edges k) where
         here : k < (check s).count
@@ -133,10 +128,10 @@ module _ (s : List ℕ) (found : Contents) (e : found ≡ contents_of s) (k : �
         between : c ≡ read_at s (contents_of s).edges k
         between = is ∙ ap (λ (x : Contents). read_at s x.edges k) e
 
-        loaded : (l : Load) → l ≡ load_on rows (offers_below (wanted_of rows c.number) rows (read_at s found.edges) k) c → l ≡ load_at s k
+        loaded : (l : Load) → l ≡ load_on pairs (offers_below (wanted_of pairs c.number) pairs (read_at s found.edges) k) c → l ≡ load_at s k
         loaded l f =
             f
-            ∙ (ap (λ (ps : List Pair). load_on ps (offers_below (wanted_of ps c.number) ps (read_at s found.edges) k) c) rows_are
+            ∙ (ap (λ (ps : List Pair). load_on ps (offers_below (wanted_of ps c.number) ps (read_at s found.edges) k) c) pairs_are
             ∙ (ap (λ (x : Contents). load_on (pairs_of s) (offers_below (wanted_of (pairs_of s) c.number) (pairs_of s) (read_at s x.edges) k) c) e
             ∙ load_is s accepted k here c between))
 
@@ -148,7 +143,7 @@ module _ (s : List ℕ) (found : Contents) (e : found ≡ contents_of s) (k : �
         unfolding reading
         byte_is = ap (λ (x : Checked). x.place) (part_accepted s k accepted here) ∙ accepted_place
 
-        pub place_found : (l : Load) → l ≡ load_on rows (offers_below (wanted_of rows c.number) rows (read_at s found.edges) k) c
+        pub place_found : (l : Load) → l ≡ load_on pairs (offers_below (wanted_of pairs c.number) pairs (read_at s found.edges) k) c
             → ◌≡◌ {A = Loaded} (record { refusal = 0; place = 0; number = c.number; load = l }) (loading s k)
         unfolding loading
         place_found l f = rw (refusal_is, byte_is, loaded l f, between ∙ read_at_reads s accepted k here)

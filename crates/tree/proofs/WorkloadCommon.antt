@@ -18,7 +18,7 @@ use Rattle.budget.specs.Task.{T, tasks_of, table_of}
 use Rattle.budget.proofs.CommonLaws.{common_added}
 use Rattle.budget.proofs.TableLaws.{count_is}
 use Rattle.record.proofs.Cases.{either}
-use Rattle.tree.specs.declared.offer.Offer.{Offer}
+use Rattle.tree.specs.numbers.Offer.{Offer}
 use Rattle.tree.specs.Offer.{as_task}
 
 -- what the code makes of the common period for a child's offer to a table

@@ -20,7 +20,7 @@ use Rattle.transfer.specs.RoundTrip.{entries_of}
 use Rattle.transfer.proofs.Accepts.{few_tasks}
 use Rattle.transfer.proofs.ReadsBack.{Fitting, sound_at}
 use Rattle.transfer.proofs.Sheet.{accepted_sheet}
-use Rattle.tree.specs.declared.offer.Offer.{Offer}
+use Rattle.tree.specs.numbers.Offer.{Offer}
 use Rattle.tree.specs.Nested.{WorkloadFits}
 use Rattle.tree.specs.Offer.{as_task, offer_in}
 use Rattle.tree.specs.Tree.{offers_to}

@@ -1,16 +1,17 @@
 -- A workload gathered pair by pair: the tasks so far are those of the children met so far, behind the own ones, the common period so far is theirs, and
 -- the children met so far with those still to come are all the children.
-use Prim.Native.Nat.{ℕ, ◌+◌, ◌-◌, ◌≤◌, ◌<◌, min}
+use Prim.Native.Nat.{ℕ, ◌-◌, ◌≤◌, min}
 use native.Mathlib.Nat.{min-eq_left, min-eq_right}
-use native.Mathlib.Numerals.{add-one}
 use native.Mathlib.Omega.{arith}
 use mathlib.Core.Bool.{Bool, true, false, cond, not, ◌&&◌, and_assoc}
 use mathlib.Core.List.{List, [], ◌∷◌, ◌++◌, append-nil, append_assoc}
-use mathlib.Core.Path.{◌≡◌, refl, sym, ap, subst, ◌∙◌}
+use mathlib.Core.Path.{◌≡◌, refl, sym, ap, ◌∙◌}
 use lib.Dec.{leb, ltb, eqb}
-use lib.ListN.{length, take, set, replicate, length-append, length-set, replicate-append-replicate}
-use lib.Seq.{append_snoc, length-take-le, take_all, take-append-le, take-suc-set, take-take}
+use lib.ListN.{length, take, drop, replicate, length-append, length-take, length-drop}
+use lib.Seq.{append_snoc, length-take-le, take_all, take-append-le, take-take}
+use borrow.Rule.Slice.PartMut.{put_mid}
 use borrow.Author.Tests.{leb-true, leb-false, ltb-true, ltb-false, le-ltb, eq-eqb, ne_eqb}
+use Rattle.std.proofs.lemmas.List.{drop_all}
 use Rattle.budget.specs.declared.common.Common.{Common}
 use Rattle.budget.specs.declared.component.Component.{Component}
 use Rattle.budget.specs.declared.task.Table.{Table}
@@ -22,7 +23,7 @@ use Rattle.budget.specs.Task.{no_task, tasks_of, table_of, appended}
 use Rattle.budget.proofs.TableLaws.{append_returned, count_is}
 use Rattle.record.specs.declared.layout.Pair.{Pair}
 use Rattle.record.proofs.Cases.{either}
-use Rattle.tree.specs.declared.offer.Offer.{Offer}
+use Rattle.tree.specs.numbers.Offer.{Offer}
 use Rattle.tree.specs.Offer.{withheld, offer_in, as_task}
 use Rattle.tree.specs.Workload.{children, all_offered, tasks_from, workload, load_on, ready, waiting}
 use Rattle.tree.proofs.WorkloadCommon.{grown_with, child_grown, own_held}
@@ -41,30 +42,6 @@ append_within t ks k h =
     rw (le-ltb t.count most_tasks (omega (arith, count_is t (take most_tasks ks) h, length-take-le most_tasks ks long)))
     (h ∙ ap table_of (sym (take-append-le most_tasks ks (k ∷ []) long))))
 
--- a table whose places from the count up to i are cleared
-pub record Cleared (ks : List Task) (count i : ℕ) (now : List Task) : Type 0 where
-  pub long : length now ≡ most_tasks
-  pub behind : count ≤ i
-  pub within : i ≤ most_tasks
-  pub held : take i now ≡ take count ks ++ replicate (i - count) no_task
-
-pub cleared_none : (ks : List Task) (count : ℕ) → length ks ≡ most_tasks → count ≤ most_tasks → Cleared ks count count ks
-cleared_none ks count whole h =
-    let none : count - count ≡ 0 = omega arith in
-    record { long = whole; behind = omega arith; within = h; held = rw none (sym (append-nil (take count ks))) }
-
-pub cleared_more : (ks : List Task) (count i : ℕ) (now : List Task) → i < most_tasks → Cleared ks count i now → Cleared ks count (i + 1) (set now i no_task)
-cleared_more ks count i now h c =
-    let more : i + 1 - count ≡ i - count + 1 = omega (arith, c.behind) in
-    record {
-      long = length-set now i no_task ∙ c.long;
-      behind = omega (arith, c.behind);
-      within = omega arith;
-      held =
-          rw (more, add-one i, take-suc-set now i no_task (omega (arith, c.long)), c.held, append_assoc)
-          (ap (λ (l : List Task). take count ks ++ l) (replicate-append-replicate (i - count) 1 no_task));
-    }
-
 -- the first tasks of a table, at most as many as it has places for
 first_held : (ks : List Task) (n : ℕ) → length ks ≡ most_tasks → take most_tasks (take n ks) ≡ take (min n most_tasks) ks
 first_held ks n whole =
@@ -74,15 +51,21 @@ first_held ks n whole =
     (λ e. let more : most_tasks ≤ n = omega (arith, leb-false n most_tasks e) in
     rw (min-eq_right more) (take-take most_tasks n ks more))
 
-pub cleared_all : (ks : List Task) (n count i : ℕ) (now : List Task) → length ks ≡ most_tasks → count ≡ min n most_tasks → most_tasks ≤ i → Cleared ks count i now
-    → record { count = count; tasks = now } ≡ table_of (take most_tasks (take n ks))
+-- the own tasks with the places behind them cleared
+pub cleared_all : (ks : List Task) (n count : ℕ) → length ks ≡ most_tasks → count ≡ min n most_tasks
+    → record { count = count; tasks = take count ks ++ replicate (most_tasks - count) no_task } ≡ table_of (take most_tasks (take n ks))
 unfolding table_of
-cleared_all ks n count i now whole is end c =
+cleared_all ks n count whole is =
     let first : take most_tasks (take n ks) ≡ take count ks = first_held ks n whole ∙ ap (λ (m : ℕ). take m ks) (sym is) in
-    let last : i ≡ most_tasks = omega (arith, c.within) in
-    let all : now ≡ take count ks ++ replicate (most_tasks - count) no_task
-    = sym (take_all most_tasks now (omega (arith, c.long))) ∙ subst (λ (m : ℕ). take m now ≡ take count ks ++ replicate (m - count) no_task) last c.held in
-    rw (first, length-take-le count ks (omega (arith, c.behind, c.within)), all)
+    rw (first, length-take-le count ks (omega (arith, is)))
+
+pub cleared_put : (ks : List Task) (count : ℕ) (cleared : List Task) → length ks ≡ most_tasks → count ≤ most_tasks
+    → cleared ≡ replicate (length (take (most_tasks - count) (drop count ks))) no_task
+    → put_mid count (most_tasks - count) ks cleared ≡ take count ks ++ replicate (most_tasks - count) no_task
+cleared_put ks count cleared whole h e =
+    let long : length (take (most_tasks - count) (drop count ks)) ≡ most_tasks - count = omega (arith, length-take (most_tasks - count) (drop count ks), length-drop count ks) in
+    let none : drop (most_tasks - count) (drop count ks) ≡ [] = drop_all (most_tasks - count) (drop count ks) (omega (arith, length-drop count ks)) in
+    rw (e, long, none, append-nil)
 
 -- ---- one child more
 
@@ -147,24 +130,24 @@ module _ (ps : List Pair) (os : List Offer) (c : Component) where
       }
 
   -- the pair that comes next
-  module _ (rest next : List Pair) (child parent : ℕ) (here : rest ≡ record { child = child; parent = parent } ∷ next) (table : Table) (common : Common) (w : Gathering ps rest os c table common) where
+  module _ (rest next : List Pair) (p : Pair) (here : rest ≡ p ∷ next) (table : Table) (common : Common) (w : Gathering ps rest os c table common) where
     -- it names another parent
-    pub gathering_same : (parent ≡ c.number → ⊥) → Gathering ps next os c table common
+    pub gathering_same : (p.parent ≡ c.number → ⊥) → Gathering ps next os c table common
     unfolding children
     gathering_same other =
         record {
           below = w.below;
           held = w.held;
           stored = w.stored;
-          todo = let t = w.todo in rw (here, ne_eqb parent c.number other) at t;
+          todo = let t = w.todo in rw (here, ne_eqb p.parent c.number other) at t;
           offered = w.offered;
         }
 
     -- it names this parent, and the child's offer is found
-    module _ (is : parent ≡ c.number) (o : Offer) (found : o ≡ offer_in os child) where
+    module _ (is : p.parent ≡ c.number) (o : Offer) (found : o ≡ offer_in os p.child) where
       todo_next : w.below ++ (o ∷ children next os c.number) ≡ children ps os c.number
       unfolding children
-      todo_next = let t = w.todo in rw found (rw (here, eq-eqb parent c.number is) at t)
+      todo_next = let t = w.todo in rw found (rw (here, eq-eqb p.parent c.number is) at t)
 
       pub gathering_more : (o.capacity ≡ withheld → ⊥) → (longer : Table) → longer ≡ with_child table o → (more : Common) → more ≡ grown_with common table o → Gathering ps next os c longer more
       unfolding all_offered

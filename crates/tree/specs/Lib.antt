@@ -1,3 +1,4 @@
+pub mod numbers
 pub mod Offer
 pub mod Workload
 pub mod Outcome

@@ -9,8 +9,8 @@ use Rattle.record.specs.Field.{Bytes}
 use Rattle.sheet.specs.Check.{check, pairs_of}
 use Rattle.sheet.specs.Pairs.{named}
 use Rattle.transfer.specs.Reading.{reading}
-use Rattle.tree.specs.declared.answer.Outcome.TheVariants as Outcome
-use Rattle.tree.specs.declared.offer.Offer.{Offer}
+use Rattle.tree.specs.numbers.Outcome as Outcome
+use Rattle.tree.specs.numbers.Offer.{Offer}
 use Rattle.tree.specs.Tree.{offers_to, outcome_at}
 use Rattle.tree.specs.Workload.{children, workload}
 

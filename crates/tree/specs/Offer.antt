@@ -1,16 +1,27 @@
 -- What a component offers to its parent once it is judged (RULES 7): the capacity it is accepted with, for its period and deadline.
-use Rattle.std.specs.Prelude.{ℕ, Bool, cond, not, List, [], ◌∷◌, eqb}
+use Rattle.std.specs.Prelude.{ℕ, ◌<◌, Bool, cond, not, List, [], ◌∷◌, ◌++◌, Option, Some, None, eqb}
 use Rattle.budget.specs.declared.component.Component.{Component}
+use Rattle.budget.specs.declared.quantity.Units.{Units}
 use Rattle.budget.specs.declared.task.Task.{Task}
 use Rattle.judge.specs.numbers.Judged.{Judged}
 use Rattle.judge.specs.numbers.Judged.{Refused, Answered}
 use Rattle.judge.specs.declared.answer.Verdict.TheVariants as Verdict
-use Rattle.tree.specs.declared.answer.Outcome.{Outcome}
-use Rattle.tree.specs.declared.offer.Offer.{Offer}
+use Rattle.tree.specs.numbers.Outcome.{Outcome}
+use Rattle.tree.specs.declared.offer.Offer as code
+use Rattle.tree.specs.numbers.Offer.{Offer}
 
 -- stands in place of a capacity where the component is not accepted; no capacity is so large
 abbrev pub withheld : ℕ
 withheld = 4_294_967_295
+
+-- a capacity that may be withheld, in the paper's numbers
+abbrev pub capacity_in : Option Units → ℕ
+capacity_in None = withheld
+capacity_in (Some u) = u.0
+
+-- an offer in the paper's numbers
+abbrev pub offered_in : code.Offer → Offer
+offered_in o = record { number = o.number; capacity = capacity_in o.capacity; period = o.period.0; deadline = o.deadline.0 }
 
 -- the offer of a component at this capacity
 abbrev pub offering : Component → ℕ → Offer
@@ -49,7 +60,7 @@ as_task o =
       lateness = record { 0 = 0 };
     }
 
--- offers as the code holds them: four numbers each, one behind the other in a row
+-- offers in a row of numbers: four each, one behind the other
 abbrev pub noted : Offer → List ℕ
 noted o = o.number ∷ o.capacity ∷ o.period ∷ o.deadline ∷ []
 
@@ -59,3 +70,19 @@ offers_in (n ∷ []) = []
 offers_in (n ∷ q ∷ []) = []
 offers_in (n ∷ q ∷ p ∷ []) = []
 offers_in (n ∷ q ∷ p ∷ d ∷ xs) = record { number = n; capacity = q; period = p; deadline = d } ∷ offers_in xs
+
+-- the row that offers stand for, one behind the other
+unfoldable pub row_in : List code.Offer → List ℕ
+row_in [] = []
+row_in (o ∷ os) = noted (offered_in o) ++ row_in os
+
+-- no capacity that a component is accepted with stands in place of one that is withheld
+abbrev pub ToldBy : Judged → Type 0
+ToldBy (Refused n) = Unit {0}
+ToldBy (Answered q Verdict.Accepted) = q.0 < withheld
+ToldBy (Answered q (Verdict.Short t)) = Unit {0}
+ToldBy (Answered q Verdict.None) = Unit {0}
+
+abbrev pub Told : Outcome → Type 0
+Told Outcome.Waiting = Unit {0}
+Told (Outcome.Judged a) = ToldBy a.verdict

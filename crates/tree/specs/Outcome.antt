@@ -1,9 +1,16 @@
 -- What a component is answered in its tree (RULES 7, 8): verdict and margin of its whole workload, or that it waits.
 use Rattle.std.specs.Prelude.{cond}
-use Rattle.judge.specs.Answer.{judge_answer}
-use Rattle.tree.specs.declared.answer.Load.{Load}
-use Rattle.tree.specs.declared.answer.Outcome.{Outcome}
+use Rattle.judge.specs.Answer.{answer_in, judge_answer}
+use Rattle.tree.specs.declared.answer.Outcome as code
+use Rattle.tree.specs.declared.answer.Outcome.TheVariants as variant
+use Rattle.tree.specs.numbers.Load.{Load}
+use Rattle.tree.specs.numbers.Outcome.{Outcome}
 
 -- the judge as it stands, on the component with its workload; waiting comes before any refusal of it
 unfoldable pub outcome_of : Load → Outcome
 outcome_of l = cond l.waiting Outcome.Waiting (Outcome.Judged (judge_answer l.component))
+
+-- an outcome in the numbers of RULES 12
+abbrev pub outcome_in : code.Outcome → Outcome
+outcome_in variant.Waiting = Outcome.Waiting
+outcome_in (variant.Judged r) = Outcome.Judged (answer_in r)

@@ -1,17 +1,20 @@
 -- The components of a sheet judged in one pass, by rising number: each after its children (RULES 7).
-use Rattle.std.specs.Prelude.{ℕ, zero, suc, cond, List, [], ◌∷◌, ◌++◌, eqb}
+use Rattle.std.specs.Prelude.{ℕ, zero, suc, cond, List, [], ◌∷◌, ◌++◌, eqb, Result, Ok, Err}
 use Rattle.budget.specs.Component.{refused}
 use Rattle.budget.specs.Refusal as refusal
+use Rattle.sheet.specs.declared.fault.Fault.{Fault}
 use Rattle.sheet.specs.Check.{pairs_of}
 use Rattle.transfer.specs.Reading.{reading}
-use Rattle.tree.specs.declared.answer.Load.{Load}
-use Rattle.tree.specs.declared.answer.Outcome.{Outcome}
-use Rattle.tree.specs.declared.offer.Offer.{Offer}
-use Rattle.tree.specs.declared.place.Loaded.{Loaded}
-use Rattle.tree.specs.declared.place.Placed.{Placed}
+use Rattle.tree.specs.declared.answer.Placed as answer
+use Rattle.tree.specs.declared.place.Loaded as place
+use Rattle.tree.specs.numbers.Load.{Load}
+use Rattle.tree.specs.numbers.Outcome.{Outcome}
+use Rattle.tree.specs.numbers.Offer.{Offer}
+use Rattle.tree.specs.numbers.Loaded.{Loaded}
+use Rattle.tree.specs.numbers.Placed.{Placed}
 use Rattle.tree.specs.Offer.{offer_of}
-use Rattle.tree.specs.Outcome.{outcome_of}
-use Rattle.tree.specs.Workload.{load_on, ready}
+use Rattle.tree.specs.Outcome.{outcome_in, outcome_of}
+use Rattle.tree.specs.Workload.{load_in, load_on, ready}
 
 -- the offers of the first k components; a child has a smaller number than its parent, so its offer stands before
 unfoldable pub offers_to : List ℕ → ℕ → List Offer
@@ -38,3 +41,12 @@ unfoldable pub placing : List ℕ → ℕ → Placed
 placing s k =
     let r = reading s k in
     cond (eqb r.refusal refusal.none) (Placed.Found r.component.number (outcome_at s k)) (Placed.Refused r.refusal r.place)
+
+-- what is answered at a place, in the numbers of RULES 12; refused, the load is that of the component that RULES 11 fixes
+abbrev pub loaded_in : Result place.Loaded Fault → Loaded
+loaded_in (Ok l) = record { refusal = refusal.none; place = 0; number = l.number; load = load_in l.workload }
+loaded_in (Err f) = record { refusal = refusal.number_of f.refusal; place = f.place; number = 0; load = ready refused }
+
+abbrev pub placed_in : Result answer.Placed Fault → Placed
+placed_in (Ok p) = Placed.Found p.number (outcome_in p.outcome)
+placed_in (Err f) = Placed.Refused (refusal.number_of f.refusal) f.place

@@ -3,9 +3,10 @@ use Rattle.std.specs.Prelude.{ℕ, ◌*◌, List, ◌≡◌, take}
 use Rattle.std.proofs.lemmas.List.Edits.{sets}
 use Rattle.budget.specs.declared.component.Component.{Component}
 use Rattle.record.specs.declared.layout.Pair.{Pair}
-use Rattle.tree.specs.declared.turn.Turn.{Turn}
+use Rattle.tree.specs.declared.answer.Placed as code
+use Rattle.tree.specs.numbers.Turn.{Turn}
 use Rattle.tree.specs.Offer.{noted, offer_of, offers_in}
-use Rattle.tree.specs.Outcome.{outcome_of}
+use Rattle.tree.specs.Outcome.{outcome_in, outcome_of}
 use Rattle.tree.specs.Workload.{load_on}
 
 -- the component c at place k; the row before and after
@@ -13,3 +14,7 @@ pub record Turned (c : Component) (pairs : List Pair) (k : ℕ) (before after : 
   pub number : t.number ≡ c.number
   pub outcome : t.outcome ≡ outcome_of (load_on pairs (offers_in (take (4 * k) before)) c)
   pub row : after ≡ sets before (4 * k) (noted (offer_of c t.outcome))
+
+-- what a turn answers, in the numbers of RULES 12
+abbrev pub turn_in : code.Placed → Turn
+turn_in t = record { number = t.number; outcome = outcome_in t.outcome }

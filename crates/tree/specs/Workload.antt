@@ -1,20 +1,14 @@
 -- A parent's workload (RULES 7): its own tasks, then each child's interface as a task, by rising child number.
-use Rattle.std.specs.Prelude.{ℕ, Bool, true, false, cond, ◌&&◌, List, [], ◌∷◌, ◌++◌, eqb, take}
+use Rattle.std.specs.Prelude.{ℕ, Bool, true, false, cond, ◌&&◌, List, [], ◌∷◌, ◌++◌, Option, Some, None, eqb, take}
 use Rattle.budget.specs.declared.component.Component.{Component}
 use Rattle.budget.specs.declared.task.Task.{Task}
 use Rattle.budget.specs.Component.{refused, with_tasks}
 use Rattle.budget.specs.Limits.{most_tasks}
 use Rattle.budget.specs.Task.{tasks_of}
 use Rattle.record.specs.declared.layout.Pair.{Pair}
-use Rattle.tree.specs.declared.answer.Load.{Load}
-use Rattle.tree.specs.declared.offer.Offer.{Offer}
+use Rattle.tree.specs.numbers.Load.{Load}
+use Rattle.tree.specs.numbers.Offer.{Offer}
 use Rattle.tree.specs.Offer.{offer_in, is_offered, as_task}
-
--- pairs as the code holds them, in a row of children and one of parents
-unfoldable pub pairs_from : List ℕ → List ℕ → List Pair
-pairs_from [] ps = []
-pairs_from (c ∷ cs) [] = []
-pairs_from (c ∷ cs) (p ∷ ps) = record { child = c; parent = p } ∷ pairs_from cs ps
 
 -- the offers of a parent's children, in the order of the pairs, which rise by child
 unfoldable pub children : List Pair → List Offer → ℕ → List Offer
@@ -40,6 +34,11 @@ waiting = record { waiting = true; component = refused }
 
 abbrev pub ready : Component → Load
 ready c = record { waiting = false; component = c }
+
+-- a workload in the numbers of RULES 12
+abbrev pub load_in : Option Component → Load
+load_in None = waiting
+load_in (Some c) = ready c
 
 -- a table has places for the most tasks; in a sheet that is taken no workload has more (WorkloadFits)
 unfoldable pub load_on : List Pair → List Offer → Component → Load

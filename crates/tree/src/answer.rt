@@ -1,18 +1,17 @@
 // What a component is answered in its tree (RULES 7).
-use budget::component::Component;
-use judge::answer::Answer;
+use budget::refusal::Refusal;
+use judge::answer::Judgement;
 
-// A component's workload: the component with the whole workload as its tasks, or that it waits for a child; then the component is the one of a
-// refused reading.
-#[derive(Clone, Copy)]
-pub struct Load {
-    pub waiting: bool,
-    pub component: Component,
-}
-
-// Verdict and margin of a component's whole workload, or that it waits.
-#[derive(Clone, Copy)]
+// Verdict and margin of a component's whole workload, or that it waits for a child.
+#[derive(Clone, Copy, PartialEq, Eq)]
 pub enum Outcome {
     Waiting,
-    Judged(Answer),
+    Judged(Result<Judgement, Refusal>),
+}
+
+// What is answered of the component at a place: its number and its outcome.
+#[derive(Clone, Copy, PartialEq, Eq)]
+pub struct Placed {
+    pub number: u16,
+    pub outcome: Outcome,
 }

@@ -2,9 +2,11 @@
 #![tactic(auto)]
 
 pub mod answer;
-pub mod below;
+mod below;
 pub mod offer;
-pub mod outcome;
+mod offering;
+mod outcome;
 pub mod place;
 pub mod turn;
-pub mod workload;
+mod wanted;
+mod workload;

@@ -1,38 +1,33 @@
 // Verdict and margin of a component's whole workload, or that it waits (RULES 7, 8).
-ghost use Rattle.std.specs.Prelude.{◌≡◌};
+ghost use Rattle.std.specs.Prelude.{◌≡◌, map};
 ghost use Rattle.budget.specs.Component.{Right};
-ghost use Rattle.tree.specs.Offer.{offers_in};
-ghost use Rattle.tree.specs.Outcome.{outcome_of};
-ghost use Rattle.tree.specs.Workload.{load_on, pairs_from};
+ghost use Rattle.tree.specs.Offer.{offered_in};
+ghost use Rattle.tree.specs.Outcome.{outcome_in, outcome_of};
+ghost use Rattle.tree.specs.Workload.{load_in, load_on};
 
-use crate::answer::{Load, Outcome};
+use crate::answer::Outcome;
+use crate::offer::Offer;
 use crate::workload::load;
 use budget::component::Component;
 use judge::known;
+use record::layout::Pair;
 
 // The judge's answer on the component with its workload. Its common period is known: what a workload makes stores the right one.
 #[tactic(auto, unfolding(crate::specs::Outcome::outcome_of))]
-pub(crate) fn outcome_of(load: Load) -> Outcome
-    requires { Right load.component }
-    ensures { result ≡ outcome_of load }
+pub(crate) fn outcome_of(workload: Option<Component>) -> Outcome
+    requires { Right (load_in workload).component }
+    ensures { outcome_in result ≡ outcome_of (load_in workload) }
 {
-    if load.waiting {
-        return Outcome::Waiting;
+    match workload {
+        Some(component) => Outcome::Judged(known::judge(component)),
+        None => Outcome::Waiting,
     }
-    let component = load.component;
-    Outcome::Judged(known::judge(component))
 }
 
-// Judges the component that comes next: the pairs as a row of children and one of parents, the offers of those before it in one row.
-pub(crate) fn judge_next(
-    component: Component,
-    children: &[u16],
-    parents: &[u16],
-    offers: &[u32],
-) -> Outcome
+// Judges the component that comes next, by the offers of those before it.
+pub(crate) fn judge_next(component: Component, pairs: &[Pair], offers: &[Offer]) -> Outcome
     requires { Right component }
-    ensures { result ≡ outcome_of (load_on (pairs_from children.now parents.now) (offers_in offers.now) component) }
+    ensures { outcome_in result ≡ outcome_of (load_on pairs.now (map offered_in offers.now) component) }
 {
-    let load = load(component, children, parents, offers);
-    outcome_of(load)
+    outcome_of(load(component, pairs, offers))
 }

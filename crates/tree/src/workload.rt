@@ -1,153 +1,81 @@
 // A parent's workload (RULES 7): its own tasks, then each child's interface as a task, by rising child number. The common period starts from the stored
 // one and goes on with the children's periods.
-ghost use Rattle.std.specs.Prelude.{cond, ◌≡◌, eqb, ltb, take, min};
+ghost use Rattle.std.specs.Prelude.{cond, ◌≡◌, eqb, ltb, map, take};
+ghost use Rattle.std.specs.List.{find};
 ghost use Rattle.budget.specs.Common.{grown};
 ghost use Rattle.budget.specs.Component.{Right};
 ghost use Rattle.budget.specs.Limits.{most_tasks};
 ghost use Rattle.budget.specs.Task.{tasks_of, table_of, appended};
-ghost use Rattle.tree.specs.Offer.{as_task, offer_in, offers_in};
-ghost use Rattle.tree.specs.Workload.{load_on, pairs_from, ready, waiting};
+ghost use Rattle.tree.specs.Offer.{as_task, offered_in};
+ghost use Rattle.tree.specs.Workload.{load_in, load_on};
 
-use crate::answer::Load;
-use crate::offer::{Offer, WITHHELD};
-use budget::common::{Common, grow};
-use budget::component::{Component, refused};
+use crate::offer::Offer;
+use budget::common::grow;
+use budget::component::Component;
 use budget::quantity::{Time, Units};
 use budget::task::{Table, Task, append};
+use record::layout::Pair;
 
-// The offer of the component of a number, of offers noted in a row; the first of that number.
-fn find_offer(offers: &[u32], number: u16) -> Offer
-    ensures { result ≡ offer_in (offers_in offers.now) number }
+// The offer of the component of a number; the first of that number.
+fn find_offer(offers: &[Offer], number: u16) -> Option<Offer>
+    ensures { result ≡ find (λ o. eqb o.number number) offers.now }
 {
-    let mut i = 0;
-    while 4 <= offers.len() - i {
-        if offers[i] == number as u32 {
-            return Offer {
-                number,
-                capacity: offers[i + 1],
-                period: offers[i + 2],
-                deadline: offers[i + 3],
-            };
-        }
-        i += 4;
-    }
-    Offer {
-        number: 0,
-        capacity: WITHHELD,
-        period: 0,
-        deadline: 0,
-    }
+    offers
+        .iter()
+        .copied()
+        .find(|offer| offer.number == u32::from(number))
 }
 
-// As many tasks as a table has places for.
-fn within_places(count: usize) -> usize
-    ensures { result ≡ min count most_tasks }
-{
-    if Table::MOST < count {
-        return Table::MOST;
-    }
-    count
-}
-
-// The tasks of a table with zeros behind them, as they are returned: the places from the count on are cleared where they stand.
+// The tasks of a table with zeros behind them, as they are returned.
 fn own_tasks(table: Table) -> Table
     ensures { result ≡ table_of (take most_tasks (tasks_of table)) }
 {
-    let count = within_places(table.count);
+    let count = table.count.min(Table::MOST);
     let mut tasks = table.tasks;
-    let mut i = count;
-    while i < Table::MOST {
-        tasks[i] = Task {
-            period: Time(0),
-            work: Units(0),
-            deadline: Time(0),
-            lateness: Time(0),
-        };
-        i += 1;
-    }
+    tasks[count..].fill(Task::NONE);
     Table { count, tasks }
 }
 
-// The table with what a child adds behind the others: its interface as a task, whose jobs are ready when they are released, or nothing
-// for capacity 0.
-fn with_child(table: Table, offer: Offer) -> Table
-    ensures { result ≡ cond (eqb offer.capacity 0) table (appended table (as_task offer)) }
+// The component with what a child adds to it: the child's interface as a task behind the others, whose jobs are ready when they are released, and one
+// common multiple more; nothing for capacity 0, or where the table is full.
+fn with_child(loaded: Component, offer: Offer, capacity: Units) -> Component
+    requires { (offered_in offer).capacity ≡ capacity.0 }
+    ensures { let o = offered_in offer in result ≡ record loaded {
+      common = cond (eqb o.capacity 0) loaded.common (cond (ltb loaded.table.count most_tasks) (grown loaded.common o.period) loaded.common);
+      table = cond (eqb o.capacity 0) loaded.table (appended loaded.table (as_task o));
+    } }
 {
-    let capacity = offer.capacity;
-    if capacity == 0 {
-        return table;
+    if capacity.0 == 0 || Table::MOST <= loaded.table.count {
+        return loaded;
     }
     let task = Task {
-        period: Time(offer.period),
-        work: Units(capacity),
-        deadline: Time(offer.deadline),
+        period: offer.period,
+        work: capacity,
+        deadline: offer.deadline,
         lateness: Time(0),
     };
-    append(table, task)
-}
-
-// The common period with what a child adds to this table: one common multiple with what is stored, or none where the table stays as it is.
-fn grow_with(common: Common, table: Table, offer: Offer) -> Common
-    ensures { result ≡ cond (eqb offer.capacity 0) common (cond (ltb table.count most_tasks) (grown common offer.period) common) }
-{
-    if offer.capacity == 0 {
-        return common;
-    }
-    if Table::MOST <= table.count {
-        return common;
-    }
-    grow(common, Time(offer.period))
-}
-
-fn waiting() -> Load
-    ensures { result ≡ waiting }
-{
-    let component = refused();
-    Load {
-        waiting: true,
-        component,
+    Component {
+        common: grow(loaded.common, offer.period),
+        table: append(loaded.table, task),
+        ..loaded
     }
 }
 
-fn ready(component: Component, common: Common, table: Table) -> Load
-    ensures { result ≡ ready (record { number = component.number; period = component.period; capacity = component.capacity; deadline = component.deadline; common = common; table = table }) }
-{
-    let number = component.number;
-    let period = component.period;
-    let capacity = component.capacity;
-    let deadline = component.deadline;
-    let loaded = Component {
-        number,
-        period,
-        capacity,
-        deadline,
-        common,
-        table,
-    };
-    Load {
-        waiting: false,
-        component: loaded,
-    }
-}
-
-// The component with its whole workload: the pairs as a row of children and one of parents, the offers in one row.
-pub(crate) fn load(component: Component, children: &[u16], parents: &[u16], offers: &[u32]) -> Load
+// The component with its whole workload as its tasks, or none where it waits for a child.
+pub(crate) fn load(component: Component, pairs: &[Pair], offers: &[Offer]) -> Option<Component>
     requires { Right component }
-    ensures { result ≡ load_on (pairs_from children.now parents.now) (offers_in offers.now) component }
+    ensures { load_in result ≡ load_on pairs.now (map offered_in offers.now) component }
 {
-    let mut table = own_tasks(component.table);
-    let mut common = component.common;
-    let mut i = 0;
-    while i < children.len() && i < parents.len() {
-        if parents[i] == component.number {
-            let offer = find_offer(offers, children[i]);
-            if offer.capacity == WITHHELD {
-                return waiting();
-            }
-            common = grow_with(common, table, offer);
-            table = with_child(table, offer);
+    let mut loaded = Component {
+        table: own_tasks(component.table),
+        ..component
+    };
+    for pair in pairs {
+        if pair.parent == component.number {
+            let offer = find_offer(offers, pair.child)?;
+            let capacity = offer.capacity?;
+            loaded = with_child(loaded, offer, capacity);
         }
-        i += 1;
     }
-    ready(component, common, table)
+    Some(loaded)
 }

@@ -2,8 +2,8 @@
 use Rattle.std.specs.Prelude.{ℕ, zero, suc, Bool, false, cond, ◌||◌, List, [], ◌∷◌, ◌++◌, eqb}
 use Rattle.budget.specs.declared.component.Component.{Component}
 use Rattle.record.specs.declared.layout.Pair.{Pair}
-use Rattle.tree.specs.declared.answer.Outcome.{Outcome}
-use Rattle.tree.specs.declared.offer.Offer.{Offer}
+use Rattle.tree.specs.numbers.Outcome.{Outcome}
+use Rattle.tree.specs.numbers.Offer.{Offer}
 use Rattle.tree.specs.Offer.{offer_of}
 use Rattle.tree.specs.Outcome.{outcome_of}
 use Rattle.tree.specs.Workload.{load_on}

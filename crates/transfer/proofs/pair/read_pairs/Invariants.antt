@@ -1,10 +1,6 @@
 -- The loop's invariant: the pairs read so far, and those still to be read from the place reached, are all the pairs.
-use Prim.Native.Nat.{◌-◌}
 use Rattle.transfer.proofs.PairTaking.{PairTaking}
 use Rattle.transfer.proofs.pair.read_pairs.Given as goal
 
 abbrev pub invariant-loop-count : goal.invariant-loop-count
-invariant-loop-count l = PairTaking l.rest l.children l.parents l.count l.place
-
-abbrev pub decreases-loop-count : goal.decreases-loop-count
-decreases-loop-count l = 256 - l.count
+invariant-loop-count l = PairTaking l.rest l.pairs l.count l.place

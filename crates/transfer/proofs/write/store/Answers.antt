@@ -1,46 +1,64 @@
 -- The component's record, then the tasks behind it, are the component's bytes stored in the buffer.
-use Prim.Native.Nat.{ℕ, ◌+◌, ◌≤◌}
-use mathlib.Core.Path.{◌≡◌}
+use Prim.Native.Nat.{◌+◌, ◌≤◌}
+use mathlib.Core.Path.{◌≡◌, sym, ap, ◌∙◌}
 use native.Mathlib.Omega.{arith}
 use lib.ListN.{length}
-use Rattle.budget.specs.declared.component.Component.{Component}
-use Rattle.budget.specs.Task.{tasks_of}
+use Rattle.std.specs.Prelude.{Ok}
+use Rattle.std.proofs.lemmas.Result.{err_from_is_err_and}
 use Rattle.budget.proofs.Ranges.{held}
-use Rattle.record.specs.Layout.{head_size, record_bytes}
-use Rattle.transfer.specs.Writing.{tasks_bytes, component_bytes}
-use Rattle.transfer.proofs.StoreLaws.{component_length, writable, head_place, head_long, stored_component}
+use Rattle.record.specs.Layout.{record_bytes}
+use Rattle.record.specs.Writing.{room_refusal, written_in}
+use Rattle.record.proofs.StoreLaws.{room_given}
+use Rattle.transfer.specs.Writing.{component_bytes}
+use Rattle.transfer.proofs.StoreLaws.{component_length, head_given, head_long, head_place, held_passed, refused_answer, refused_bytes, stored_answer, stored_bytes, stored_component}
 use Rattle.transfer.proofs.write.store.Goals as goal
-use Rattle.transfer.proofs.write.store.Goals.{Start}
+use Rattle.transfer.proofs.write.store.Goals.{In_ok-check_room}
 
--- what the requirement grants: the table has no more tasks than places, and the buffer has room for the whole component
-record Free (room at : ℕ) (c : Component) : Type 0 where
-  count : c.table.count ≤ 64
-  size : length (component_bytes c) ≡ head_size c.capacity + length (tasks_bytes (tasks_of c.table))
-  fits : at + length (component_bytes c) ≤ room
+pub component_size-requires : goal.component_size-requires
+component_size-requires c = (held c.args.component c.requires).0.count
 
-free : (c : Start) → Free (length c.args.buffer.now) c.args.at c.args.component
-free c =
+pub returns-in_err-check_room : goal.returns-in_err-check_room
+returns-in_err-check_room c =
     let a = c.args in
-    let w = writable (length a.buffer.now) a.at a.component c.requires in
-    let few = (held a.component w.held).0.count in
-    record { count = few; size = component_length a.component; fits = w.fits }
+    let p = err_from_is_err_and c.from_residual.result c.from_residual.ensures.1 in
+    let e = c.in_err-check_room.field-0.0 in
+    let n = c.in_err-check_room.ensures ∙ (ap (room_refusal (length a.buffer.now) a.at) c.component_size.ensures ∙ sym (held_passed (length a.buffer.now) a.at a.component c.requires)) in
+    record { answer = rw (p.1, p.2) (refused_answer _ a.at (component_bytes a.component) e n); bytes = refused_bytes _ a.buffer.now a.at (component_bytes a.component) e n }
+
+-- nothing is refused, so there is room
+module _ (c : In_ok-check_room) where
+  given : room_refusal (length c.args.buffer.now) c.args.at (length (component_bytes c.args.component)) ≡ 0
+  given = sym (c.in_ok-check_room.ensures ∙ ap (room_refusal (length c.args.buffer.now) c.args.at) c.component_size.ensures)
+
+  fits : c.args.at + length (component_bytes c.args.component) ≤ length c.args.buffer.now
+  fits = room_given _ _ _ given
+
+pub returns-in_err-place : goal.returns-in_err-place
+unfolding record_bytes
+returns-in_err-place c =
+    let a = c.args in
+    let e = rw c.head_of.ensures at c.in_err-place.ensures in
+    absurd (head_given a.buffer.now a.at a.component (fits (goal.at.returns-in_err-place c).In_ok-check_room) c.in_err-place.field-0.0 e.answer)
 
 pub write_tasks-requires : goal.write_tasks-requires
 unfolding record_bytes
-write_tasks-requires c = let a = c.args in
-    let h = free (goal.at.write_tasks-requires c).Start in
-    let r = c.write_record-written in
-    let e = rw c.head_of-head.ensures at r.ensures in
-    let p = head_place a.buffer.now a.at a.component h.fits r.result e.answer in
-    let n = head_long a.buffer.now a.at a.component h.fits r.new.buffer e.bytes in
-    (h.count, omega (arith, p, n, h.fits, h.size))
+write_tasks-requires c =
+    let a = c.args in
+    let f = fits (goal.at.write_tasks-requires c).In_ok-check_room in
+    let e = rw c.head_of.ensures at c.in_ok-place.ensures in
+    let p = head_place a.buffer.now a.at a.component f (written_in (Ok c.in_ok-place.place)) e.answer in
+    let n = head_long a.buffer.now a.at a.component f c.write_record.new.buffer e.bytes in
+    omega (arith, p, n, f, component_length a.component)
 
 pub returns : goal.returns
 unfolding record_bytes
-returns c = let a = c.args in
-    let h = free (goal.at.returns c).Start in
-    let r = c.write_record-written in
-    let w = c.write_tasks in
-    let e = rw c.head_of-head.ensures at r.ensures in
-    let p = head_place a.buffer.now a.at a.component h.fits r.result e.answer in
-    record { place = omega (arith, w.ensures.place, p, h.size); bytes = stored_component a.buffer.now a.at a.component h.fits r.new.buffer w.new.buffer e.bytes (rw p at w.ensures.bytes) }
+returns c =
+    let a = c.args in
+    let g = given (goal.at.returns c).In_ok-check_room in
+    let f = fits (goal.at.returns c).In_ok-check_room in
+    let e = rw c.head_of.ensures at c.in_ok-place.ensures in
+    let p = head_place a.buffer.now a.at a.component f (written_in (Ok c.in_ok-place.place)) e.answer in
+    record {
+      answer = rw c.write_tasks.ensures.place (stored_answer a.buffer.now a.at a.component c.requires g _ (omega (arith, p, component_length a.component)));
+      bytes = stored_bytes a.buffer.now a.at a.component c.requires g _ (stored_component a.buffer.now a.at a.component f c.write_record.new.buffer c.write_tasks.new.buffer e.bytes (rw p at c.write_tasks.ensures.bytes));
+    }

@@ -1,30 +1,32 @@
--- By whether the row has a place for the offer: each part is what its function ensures.
-use native.Mathlib.Omega.{arith}
-use mathlib.Core.Path.{refl, sym, subst, ap, ◌∙◌}
-use lib.Seq.{length-take-le}
-use borrow.Author.Rules.{rules}
+-- With a place in the row each part is what its function ensures, and the offer is set where its four numbers stand in the row of numbers.
+use Prim.Native.Nat.{◌*◌}
+use mathlib.Core.Path.{sym, subst, ap, ◌∙◌}
+use lib.Seq.{sets}
 use Rattle.budget.specs.declared.component.Component.{Component}
 use Rattle.budget.specs.Component.{Right}
 use Rattle.transfer.proofs.ReadRight.{read_at_right}
-use Rattle.tree.specs.declared.answer.Outcome.TheVariants.{Waiting}
+use Rattle.tree.specs.numbers.Offer.{Offer}
+use Rattle.tree.specs.Offer.{Told, noted, offer_of, row_in}
+use Rattle.tree.specs.Outcome.{outcome_in}
+use Rattle.tree.proofs.Accepted.{told}
+use Rattle.tree.proofs.OfferLaws.{row_before, row_set}
 use Rattle.tree.proofs.turn.turn_at.Goals as goal
-
-pub returns-then-offers-place : goal.returns-then-offers-place
-returns-then-offers-place c = record { turned = (λ room. absurd (omega arith)); full = (λ full. (ap (λ (x : Component). record { number = x.number; outcome = Waiting }) c.read_at-component.ensures, refl)) }
-
-pub slice_bounds-judge_next-end-2 : goal.slice_bounds-judge_next-end-2
-slice_bounds-judge_next-end-2 c = sym (length-take-le _ _ (search rules))
 
 pub judge_next-outcome-requires : goal.judge_next-outcome-requires
 judge_next-outcome-requires c = subst Right (sym c.read_at-component.ensures) (read_at_right _ _ _)
 
-pub returns : goal.returns
-returns c =
-    let read = c.read_at-component.ensures in record {
-      turned = (λ room. record {
-        number = ap (λ (x : Component). x.number) read;
-        outcome = rw (← read) c.judge_next-outcome.ensures;
-        row = c.note.ensures ∙ rw (c.offer_of-offer.ensures, read);
-      });
-      full = (λ full. absurd (omega arith));
+pub offer_of-requires : goal.offer_of-requires
+offer_of-requires c = subst Told (sym c.judge_next-outcome.ensures) (told _)
+
+pub returns-clause-turned : goal.returns-clause-turned
+returns-clause-turned c =
+    let a = c.args in
+    let read = c.read_at-component.ensures in
+    λ room. record {
+      number = ap (λ (x : Component). x.number) read;
+      outcome = rw (row_before a.place a.offers.now, ← read) c.judge_next-outcome.ensures;
+      row =
+          row_set a.place a.offers.now c.offer_of.result room
+          ∙ ap (λ (o : Offer). sets (row_in a.offers.now) (4 * a.place) (noted o))
+          (c.offer_of.ensures ∙ ap (λ (x : Component). offer_of x (outcome_in c.judge_next-outcome.result)) read);
     }

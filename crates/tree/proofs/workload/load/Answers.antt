@@ -1,69 +1,86 @@
--- The loop's invariant: what is gathered from the pairs before the place, with its common period, and those from the place on, make the whole workload.
+-- The loop's invariant: what is gathered from the pairs gone through, with its common period, and those from the next on, make the whole workload.
 use Prim.Native.Nat.{ℕ, ◌+◌}
-use mathlib.Core.List.{List, [], ◌∷◌}
-use mathlib.Core.Path.{◌≡◌, sym, ◌∙◌}
-use lib.ListN.{length, get_or}
+use mathlib.Core.List.{List, ◌∷◌, map}
+use mathlib.Core.Path.{◌≡◌, refl, sym, ap, ◌∙◌}
+use lib.Dec.{eqb}
+use lib.ListN.{length, get_or, drop}
 use borrow.Author.Rules.{rules}
+use Rattle.std.proofs.lemmas.List.{drop_more, drop_all}
+use Rattle.std.specs.List.{find}
+use Rattle.std.specs.Prelude.{Option}
+use Rattle.budget.specs.declared.common.Common.{Common}
+use Rattle.budget.specs.declared.component.Component.{Component}
+use Rattle.budget.specs.declared.task.Table.{Table}
 use Rattle.budget.specs.Limits.{most_tasks}
 use Rattle.budget.proofs.Places.{length_mapped}
 use Rattle.record.specs.declared.layout.Pair.{Pair}
-use Rattle.tree.specs.declared.offer.Offer.{Offer}
-use Rattle.tree.specs.Offer.{offers_in}
-use Rattle.tree.specs.Workload.{pairs_from}
-use Rattle.tree.proofs.OfferLaws.{pairs_after, pairs_at, children_end, parents_end}
+use Rattle.transfer.specs.Pairing.{no_pair}
+use Rattle.tree.specs.declared.offer.Offer as code
+use Rattle.tree.specs.Offer.{capacity_in, no_offer, offer_in, offered_in}
+use Rattle.tree.specs.Workload.{load_in, ready}
+use Rattle.tree.proofs.OfferLaws.{found, found_is, told_some}
 use Rattle.tree.proofs.WorkloadLaws.{gathering_none, gathering_same, gathering_more, gathering_waits, gathered}
 use Rattle.tree.proofs.workload.load.Goals as goal
-use Rattle.tree.proofs.workload.load.Goals.{then-parents-i+else-offer, else-parents-i, then-loop-i-test+else-i-parents, else-loop-i-test, Left-loop-i, Start, Then-i-parents}
-
-module _ (h : Start) where
-  abbrev pairs : List Pair
-  pairs = pairs_from h.args.children.now h.args.parents.now
-
-  abbrev offers : List Offer
-  offers = let a = h.args in offers_in a.offers.now
-
--- both rows have an entry at the place
-module _ (c : Then-i-parents) where
-  abbrev child : ℕ
-  child = get_or c.args.children.now c.loop-i.i 0
-
-  abbrev parent : ℕ
-  parent = get_or c.args.parents.now c.loop-i.i 0
-
-  here : pairs_after c.args.children.now c.args.parents.now c.loop-i.i ≡ record { child = child; parent = parent } ∷ pairs_after c.args.children.now c.args.parents.now (c.loop-i.i + 1)
-  here = pairs_at _ _ c.loop-i.i c.loop-i-test.true c.if-i-parents.true
+use Rattle.tree.proofs.workload.load.Goals.{then-pair-component+in_ok-offer+in_ok-capacity, else-pair-component, In-loop-pair, Start}
 
 -- a table has the places that its type gives it
-places : (s : Start) → length s.args.component.table.tasks ≡ most_tasks
-places s = search (rules, length_mapped)
+places : (h : Start) → length h.args.component.table.tasks ≡ most_tasks
+places h = search (rules, length_mapped)
 
-pub loop-i-init : goal.loop-i-init
-loop-i-init c = gathering_none _ _ _ c.requires (places (goal.at.loop-i-init c).Start) _ c.own_tasks-table.ensures
+-- a component with another table and another common period, twice
+same_on : (c l m : Component) (s : Common) (t : Table) → l ≡ record c { common = l.common; table = l.table } → m ≡ record l { common = s; table = t }
+    → m ≡ record c { common = m.common; table = m.table }
+same_on c l m s t e f = f ∙ ap (λ (x : Component). record x { common = s; table = t }) e ∙ ap (λ (x : Component). record c { common = x.common; table = x.table }) (sym f)
 
-pub returns-then-offer : goal.returns-then-offer
-returns-then-offer c =
-    let s = (goal.at.returns-then-offer c).Start in
-    let t = (goal.at.returns-then-offer c).Then-i-parents in
-    c.waiting.ensures
-    ∙ sym (gathering_waits (pairs s) (offers s) c.args.component _ _ (child t) (parent t) (here t) c.loop-i.table c.loop-i.common c.loop-i.invariant (search rules) _ c.find_offer-offer.ensures c.if-offer.true)
+pub loop-pair-init : goal.loop-pair-init
+loop-pair-init c = record { gathered = gathering_none _ _ _ c.requires (places (goal.at.loop-pair-init c).Start) _ c.own_tasks.ensures; same = refl }
 
-pub loop-i-preserved : goal.loop-i-preserved
-loop-i-preserved c =
-    let s = (goal.at.loop-i-preserved c).Start in
-    let t = (goal.at.loop-i-preserved c).Then-i-parents in
-    elim c.if-parents-i.branch [
-      | then-parents-i+else-offer w ↦ gathering_more (pairs s) (offers s) c.args.component _ _ (child t) (parent t) (here t) c.loop-i.table c.loop-i.common c.loop-i.invariant w.if-parents-i.true _ w.find_offer-offer.ensures w.if-offer.false _ (w.table-is ∙ w.with_child-table.ensures) _ (w.common-is ∙ w.grow_with-common.ensures)
-      | else-parents-i w ↦ rw (w.table-is, w.common-is) (gathering_same (pairs s) (offers s) c.args.component _ _ (child t) (parent t) (here t) c.loop-i.table c.loop-i.common c.loop-i.invariant w.if-parents-i.false)
-    ]
+-- the pair of this turn names the parent
+module _ (c : In-loop-pair) where
+  abbrev pair : Pair
+  pair = get_or c.args.pairs.now c.loop-pair.pair-index no_pair
 
--- one of the rows has ended
-left : (c : Left-loop-i) → pairs_after c.args.children.now c.args.parents.now c.loop-i.i ≡ []
-left c =
-    elim c.loop-i-test.branch [
-      | then-loop-i-test+else-i-parents w ↦ parents_end c.args.children.now c.args.parents.now c.loop-i.i w.if-i-parents.false
-      | else-loop-i-test w ↦ children_end c.args.children.now c.args.parents.now c.loop-i.i w.loop-i-test.false
+  here : drop c.loop-pair.pair-index c.args.pairs.now ≡ pair ∷ drop (c.loop-pair.pair-index + 1) c.args.pairs.now
+  here = drop_more c.args.pairs.now c.loop-pair.pair-index no_pair c.loop-pair-test.true
+
+-- what is looked for is what is found
+looked : (os : List code.Offer) (n : ℕ) (r : Option code.Offer) → r ≡ find (λ (o : code.Offer). eqb o.number n) os → (s : Option code.Offer) → r ≡ s → found s ≡ offer_in (map offered_in os) n
+looked os n r e s f = ap found (sym f ∙ e) ∙ sym (found_is os n)
+
+pub returns-in_err-offer : goal.returns-in_err-offer
+returns-in_err-offer c =
+    let p = (goal.at.returns-in_err-offer c).In-loop-pair in
+    let l = c.loop-pair in
+    ap load_in c.from_residual.ensures
+    ∙ sym (gathering_waits c.args.pairs.now (map offered_in c.args.offers.now) c.args.component _ _ (pair p) (here p) l.loaded.table l.loaded.common l.invariant.gathered c.if-pair-component.true no_offer
+    (looked _ _ _ c.find_offer.ensures _ c.in_err-offer.was) refl)
+
+pub returns-in_err-capacity : goal.returns-in_err-capacity
+returns-in_err-capacity c =
+    let p = (goal.at.returns-in_err-capacity c).In-loop-pair in
+    let l = c.loop-pair in
+    ap load_in c.from_residual-in_err-capacity.ensures
+    ∙ sym (gathering_waits c.args.pairs.now (map offered_in c.args.offers.now) c.args.component _ _ (pair p) (here p) l.loaded.table l.loaded.common l.invariant.gathered c.if-pair-component.true (offered_in c.in_ok-offer.offer)
+    (looked _ _ _ c.find_offer.ensures _ c.in_ok-offer.was) (ap capacity_in c.in_err-capacity.was))
+
+pub loop-pair-preserved : goal.loop-pair-preserved
+loop-pair-preserved c =
+    let p = (goal.at.loop-pair-preserved c).In-loop-pair in
+    let l = c.loop-pair in
+    elim c.if-pair-component.branch [
+      | then-pair-component+in_ok-offer+in_ok-capacity w ↦ let is = w.loaded-is ∙ w.with_child-loaded.ensures in record {
+        gathered = gathering_more c.args.pairs.now (map offered_in c.args.offers.now) c.args.component _ _ (pair p) (here p) l.loaded.table l.loaded.common l.invariant.gathered w.if-pair-component.true (offered_in w.in_ok-offer.offer)
+            (looked _ _ _ w.find_offer.ensures _ w.in_ok-offer.was) (told_some w.in_ok-offer.offer w.in_ok-capacity.capacity w.in_ok-capacity.was) _ (ap (λ (x : Component). x.table) is) _ (ap (λ (x : Component). x.common) is);
+        same = same_on c.args.component l.loaded _ _ _ l.invariant.same is;
+      }
+      | else-pair-component w ↦ rw w.loaded-is (record {
+        gathered = gathering_same c.args.pairs.now (map offered_in c.args.offers.now) c.args.component _ _ (pair p) (here p) l.loaded.table l.loaded.common l.invariant.gathered w.if-pair-component.false;
+        same = l.invariant.same;
+      })
     ]
 
 pub returns : goal.returns
 returns c =
-    c.ready.ensures ∙ sym (gathered (pairs (goal.at.returns c).Start) (offers (goal.at.returns c).Start) c.args.component _ (left (goal.at.returns c).Left-loop-i) c.loop-i.table c.loop-i.common c.loop-i.invariant)
+    let l = c.loop-pair in
+    ap ready l.invariant.same
+    ∙ sym (gathered c.args.pairs.now (map offered_in c.args.offers.now) c.args.component (drop l.pair-index c.args.pairs.now) (drop_all l.pair-index c.args.pairs.now c.loop-pair-test.false) l.loaded.table l.loaded.common l.invariant.gathered)

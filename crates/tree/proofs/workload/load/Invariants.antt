@@ -1,15 +1,14 @@
--- The loop's invariant: what is gathered from the pairs before the place, with its common period, and those from the place on, make the whole workload.
-use Prim.Native.Nat.{◌-◌}
-use lib.ListN.{length}
-use Rattle.tree.specs.Offer.{offers_in}
-use Rattle.tree.specs.Workload.{pairs_from}
-use Rattle.tree.proofs.OfferLaws.{pairs_after}
+-- The loop's invariant: what is gathered from the pairs gone through, with its common period, and those from the next on, make the whole workload.
+use mathlib.Core.List.{map}
+use mathlib.Core.Path.{◌≡◌}
+use lib.ListN.{drop}
+use Rattle.tree.specs.Offer.{offered_in}
 use Rattle.tree.proofs.WorkloadLaws.{Gathering}
 use Rattle.tree.proofs.workload.load.Given as goal
 
-abbrev pub invariant-loop-i : goal.invariant-loop-i
-invariant-loop-i l =
-    Gathering (pairs_from l.children l.parents) (pairs_after l.children l.parents l.i) (offers_in l.offers) l.component l.table l.common
-
-abbrev pub decreases-loop-i : goal.decreases-loop-i
-decreases-loop-i l = length l.children - l.i
+abbrev pub invariant-loop-pair : goal.invariant-loop-pair
+invariant-loop-pair l =
+    record {
+      gathered : Gathering l.pairs (drop l.pair-index l.pairs) (map offered_in l.offers) l.component l.loaded.table l.loaded.common;
+      same : l.loaded ≡ record l.component { common = l.loaded.common; table = l.loaded.table };
+    }
