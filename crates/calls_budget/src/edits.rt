@@ -3,7 +3,7 @@ use budget::{edit, make};
 use calls::print::Out;
 use calls::words::Words;
 
-pub fn make(words: &mut Words<'_>, out: &mut Out) {
+fn make(words: &mut Words<'_>, out: &mut Out) {
     let head = words.head();
     let table = words.table();
     out.edited(make::make_component(
@@ -15,14 +15,26 @@ pub fn make(words: &mut Words<'_>, out: &mut Out) {
     ));
 }
 
-pub fn add_task(words: &mut Words<'_>, out: &mut Out) {
+fn add_task(words: &mut Words<'_>, out: &mut Out) {
     let component = words.component();
     let task = words.task();
     out.edited(edit::add_task(component, task));
 }
 
-pub fn remove_task(words: &mut Words<'_>, out: &mut Out) {
+fn remove_task(words: &mut Words<'_>, out: &mut Out) {
     let component = words.component();
     let place = words.place();
     out.edited(edit::remove_task(component, place));
+}
+
+// Answers the call, and says whether it is one of these.
+pub(crate) fn answer(call: &[u8], mut words: Words<'_>, out: &mut Out) -> bool {
+    let words = &mut words;
+    match call {
+        b"make" => make(words, out),
+        b"add_task" => add_task(words, out),
+        b"remove_task" => remove_task(words, out),
+        _ => return false,
+    }
+    true
 }

@@ -11,7 +11,7 @@ use calls::words::Words;
 use calls_sheet::shown::put_reading;
 use transfer::read;
 
-pub fn edit(words: &mut Words<'_>, out: &mut Out) {
+fn edit(words: &mut Words<'_>, out: &mut Out) {
     let mut bytes = [0u8; ROOM];
     let sheet = words.row(&mut bytes);
     let place = words.place();
@@ -22,4 +22,14 @@ pub fn edit(words: &mut Words<'_>, out: &mut Out) {
         },
         Err(fault) => put_reading(out, Err(fault)),
     }
+}
+
+// Answers the call, and says whether it is one of this crate.
+pub fn answer(call: &[u8], mut words: Words<'_>, out: &mut Out) -> bool {
+    let words = &mut words;
+    match call {
+        b"edit" => edit(words, out),
+        _ => return false,
+    }
+    true
 }

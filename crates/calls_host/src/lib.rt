@@ -20,7 +20,7 @@ fn called<F: FnOnce(&mut [u8], usize) -> u32>(words: &mut Words<'_>, out: &mut O
     }
 }
 
-pub fn host(words: &mut Words<'_>, out: &mut Out) {
+fn host(words: &mut Words<'_>, out: &mut Out) {
     let mut bytes = [0u8; ROOM];
     let sheet = words.row(&mut bytes);
     let place = words.place();
@@ -31,7 +31,7 @@ pub fn host(words: &mut Words<'_>, out: &mut Out) {
     );
 }
 
-pub fn host_check(words: &mut Words<'_>, out: &mut Out) {
+fn host_check(words: &mut Words<'_>, out: &mut Out) {
     let mut bytes = [0u8; ROOM];
     let sheet = words.row(&mut bytes);
     called(
@@ -41,7 +41,7 @@ pub fn host_check(words: &mut Words<'_>, out: &mut Out) {
     );
 }
 
-pub fn host_all(words: &mut Words<'_>, out: &mut Out) {
+fn host_all(words: &mut Words<'_>, out: &mut Out) {
     let mut bytes = [0u8; ROOM];
     let sheet = words.row(&mut bytes);
     called(
@@ -49,4 +49,16 @@ pub fn host_all(words: &mut Words<'_>, out: &mut Out) {
         out,
         |reply, at| jougsilver::jougsilver_judge_all(sheet, reply, at),
     );
+}
+
+// Answers the call, and says whether it is one of this crate.
+pub fn answer(call: &[u8], mut words: Words<'_>, out: &mut Out) -> bool {
+    let words = &mut words;
+    match call {
+        b"host" => host(words, out),
+        b"host_check" => host_check(words, out),
+        b"host_all" => host_all(words, out),
+        _ => return false,
+    }
+    true
 }

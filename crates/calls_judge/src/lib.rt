@@ -7,7 +7,7 @@ use calls::print::Out;
 use calls::words::Words;
 use judge::{capacity, judging};
 
-pub fn judge(words: &mut Words<'_>, out: &mut Out) {
+fn judge(words: &mut Words<'_>, out: &mut Out) {
     let component = words.component();
     let answered = judging::judge(component);
     out.status(&answered);
@@ -16,11 +16,22 @@ pub fn judge(words: &mut Words<'_>, out: &mut Out) {
     }
 }
 
-pub fn capacity(words: &mut Words<'_>, out: &mut Out) {
+fn capacity(words: &mut Words<'_>, out: &mut Out) {
     let component = words.component();
     let answered = capacity::smallest_capacity(component);
     out.status(&answered);
     if let Ok(smallest) = answered {
         shown::put_smallest(out, smallest);
     }
+}
+
+// Answers the call, and says whether it is one of this crate.
+pub fn answer(call: &[u8], mut words: Words<'_>, out: &mut Out) -> bool {
+    let words = &mut words;
+    match call {
+        b"judge" => judge(words, out),
+        b"capacity" => capacity(words, out),
+        _ => return false,
+    }
+    true
 }

@@ -10,7 +10,7 @@ use run::jobs::Jobs;
 use run::walk::{Walked, walk as walk_jobs};
 use trace::legal::is_legal;
 
-pub fn legal(words: &mut Words<'_>, out: &mut Out) {
+fn legal(words: &mut Words<'_>, out: &mut Out) {
     let interface = words.interface();
     let offset = words.time();
     let mut bytes = [0u8; ROOM];
@@ -48,7 +48,7 @@ fn put_walked(out: &mut Out, answered: Result<Walked, Refusal>, left: &[u32]) {
 }
 
 // A walk has as much of the work-left buffer as the call says.
-pub fn walk(words: &mut Words<'_>, out: &mut Out) {
+fn walk(words: &mut Words<'_>, out: &mut Out) {
     let table = words.table();
     let mut tasks = [0u32; 2048];
     let mut releases = [0i32; 2048];
@@ -70,4 +70,15 @@ pub fn walk(words: &mut Words<'_>, out: &mut Out) {
         }
         None => out.unknown(),
     }
+}
+
+// Answers the call, and says whether it is one of this crate.
+pub fn answer(call: &[u8], mut words: Words<'_>, out: &mut Out) -> bool {
+    let words = &mut words;
+    match call {
+        b"legal" => legal(words, out),
+        b"walk" => walk(words, out),
+        _ => return false,
+    }
+    true
 }

@@ -1,6 +1,14 @@
 // The calls on sheets (docs/CALLS.md), each answered by a function of its own.
 #![tactic(auto)]
 
-pub mod sheets;
+mod sheets;
 pub mod shown;
-pub mod writers;
+mod writers;
+
+use calls::print::Out;
+use calls::words::Words;
+
+// Answers the call, and says whether it is one of this crate.
+pub fn answer(call: &[u8], words: Words<'_>, out: &mut Out) -> bool {
+    sheets::answer(call, words, out) || writers::answer(call, words, out)
+}

@@ -7,14 +7,14 @@ use sheet::{check, part};
 use transfer::pair::{self, Pair};
 use transfer::read;
 
-pub fn sheet(words: &mut Words<'_>, out: &mut Out) {
+fn sheet(words: &mut Words<'_>, out: &mut Out) {
     let mut bytes = [0u8; ROOM];
     let answered = check::check_sheet(words.row(&mut bytes));
     shown::put_status(out, &answered);
     out.word(answered.unwrap_or(0));
 }
 
-pub fn part(words: &mut Words<'_>, out: &mut Out) {
+fn part(words: &mut Words<'_>, out: &mut Out) {
     let mut bytes = [0u8; ROOM];
     let sheet = words.row(&mut bytes);
     let place = words.place();
@@ -22,14 +22,14 @@ pub fn part(words: &mut Words<'_>, out: &mut Out) {
     out.row(part::component_part(sheet, place));
 }
 
-pub fn read(words: &mut Words<'_>, out: &mut Out) {
+fn read(words: &mut Words<'_>, out: &mut Out) {
     let mut bytes = [0u8; ROOM];
     let sheet = words.row(&mut bytes);
     let place = words.place();
     shown::put_reading(out, read::read_component(sheet, place));
 }
 
-pub fn read_pair(words: &mut Words<'_>, out: &mut Out) {
+fn read_pair(words: &mut Words<'_>, out: &mut Out) {
     let mut bytes = [0u8; ROOM];
     let sheet = words.row(&mut bytes);
     let place = words.place();
@@ -41,4 +41,17 @@ pub fn read_pair(words: &mut Words<'_>, out: &mut Out) {
     });
     out.word(pair.child);
     out.word(pair.parent);
+}
+
+// Answers the call, and says whether it is one of these.
+pub(crate) fn answer(call: &[u8], mut words: Words<'_>, out: &mut Out) -> bool {
+    let words = &mut words;
+    match call {
+        b"sheet" => sheet(words, out),
+        b"part" => part(words, out),
+        b"read" => read(words, out),
+        b"read_pair" => read_pair(words, out),
+        _ => return false,
+    }
+    true
 }

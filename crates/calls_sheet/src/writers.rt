@@ -25,7 +25,7 @@ fn written<F: FnOnce(&mut [u8], usize) -> Result<usize, Refusal>>(
     }
 }
 
-pub fn write(words: &mut Words<'_>, out: &mut Out) {
+fn write(words: &mut Words<'_>, out: &mut Out) {
     let component = words.component();
     written(
         words,
@@ -34,15 +34,27 @@ pub fn write(words: &mut Words<'_>, out: &mut Out) {
     );
 }
 
-pub fn write_end(words: &mut Words<'_>, out: &mut Out) {
+fn write_end(words: &mut Words<'_>, out: &mut Out) {
     let count = words.place();
     written(words, out, |part, at| write::write_end(part, at, count));
 }
 
-pub fn write_pair(words: &mut Words<'_>, out: &mut Out) {
+fn write_pair(words: &mut Words<'_>, out: &mut Out) {
     let pair = Pair {
         child: words.component_number(),
         parent: words.component_number(),
     };
     written(words, out, |part, at| pair::write_pair(part, at, pair));
+}
+
+// Answers the call, and says whether it is one of these.
+pub(crate) fn answer(call: &[u8], mut words: Words<'_>, out: &mut Out) -> bool {
+    let words = &mut words;
+    match call {
+        b"write" => write(words, out),
+        b"write_end" => write_end(words, out),
+        b"write_pair" => write_pair(words, out),
+        _ => return false,
+    }
+    true
 }

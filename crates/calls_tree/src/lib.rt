@@ -11,7 +11,7 @@ use sheet::fault::Fault;
 use tree::answer::Outcome;
 use tree::place::{judge_place, load_place};
 
-pub fn workload(words: &mut Words<'_>, out: &mut Out) {
+fn workload(words: &mut Words<'_>, out: &mut Out) {
     let mut bytes = [0u8; ROOM];
     let sheet = words.row(&mut bytes);
     let place = words.place();
@@ -46,7 +46,7 @@ fn put_outcome(out: &mut Out, number: u16, outcome: Outcome) {
     }
 }
 
-pub fn tree(words: &mut Words<'_>, out: &mut Out) {
+fn tree(words: &mut Words<'_>, out: &mut Out) {
     let mut bytes = [0u8; ROOM];
     let sheet = words.row(&mut bytes);
     let place = words.place();
@@ -54,4 +54,15 @@ pub fn tree(words: &mut Words<'_>, out: &mut Out) {
         Ok(placed) => put_outcome(out, placed.number, placed.outcome),
         Err(fault) => put_fault(out, fault),
     }
+}
+
+// Answers the call, and says whether it is one of this crate.
+pub fn answer(call: &[u8], mut words: Words<'_>, out: &mut Out) -> bool {
+    let words = &mut words;
+    match call {
+        b"workload" => workload(words, out),
+        b"tree" => tree(words, out),
+        _ => return false,
+    }
+    true
 }

@@ -3,47 +3,23 @@
 
 use calls::print::Out;
 use calls::words::Words;
-use calls_budget::{edits, numbers};
-use calls_sheet::{sheets, writers};
 use lines::{Held, line_end};
 use std::io;
 use std::io::Read;
 
-// The answer to a line, by its first word.
+// The answer to a line, tried crate by crate: its first word names the call.
 fn answer(line: &[u8], out: &mut Out) {
-    let mut line = Words::of(line);
-    let words = &mut line;
-    match words.word() {
-        b"check_task" => numbers::check_task(words, out),
-        b"check_table" => numbers::check_table(words, out),
-        b"check_interface" => numbers::check_interface(words, out),
-        b"check_component" => numbers::check_component(words, out),
-        b"dedicated" => numbers::dedicated(out),
-        b"common_divisor" => numbers::common_divisor(words, out),
-        b"common_period" => numbers::common_period(words, out),
-        b"demand" => numbers::demand(words, out),
-        b"supply" => numbers::supply(words, out),
-        b"make" => edits::make(words, out),
-        b"add_task" => edits::add_task(words, out),
-        b"remove_task" => edits::remove_task(words, out),
-        b"judge" => calls_judge::judge(words, out),
-        b"capacity" => calls_judge::capacity(words, out),
-        b"legal" => calls_run::legal(words, out),
-        b"walk" => calls_run::walk(words, out),
-        b"sheet" => sheets::sheet(words, out),
-        b"part" => sheets::part(words, out),
-        b"read" => sheets::read(words, out),
-        b"read_pair" => sheets::read_pair(words, out),
-        b"write" => writers::write(words, out),
-        b"write_end" => writers::write_end(words, out),
-        b"write_pair" => writers::write_pair(words, out),
-        b"edit" => calls_edit::edit(words, out),
-        b"workload" => calls_tree::workload(words, out),
-        b"tree" => calls_tree::tree(words, out),
-        b"host" => calls_host::host(words, out),
-        b"host_check" => calls_host::host_check(words, out),
-        b"host_all" => calls_host::host_all(words, out),
-        _ => out.unknown(),
+    let mut words = Words::of(line);
+    let call = words.word();
+    let answered = calls_budget::answer(call, words, out)
+        || calls_judge::answer(call, words, out)
+        || calls_run::answer(call, words, out)
+        || calls_sheet::answer(call, words, out)
+        || calls_edit::answer(call, words, out)
+        || calls_tree::answer(call, words, out)
+        || calls_host::answer(call, words, out);
+    if !answered {
+        out.unknown();
     }
 }
 
