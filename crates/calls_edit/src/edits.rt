@@ -1,45 +1,19 @@
-// The edits of a call, one after the other: each leaves a component that stores the right common period, which the next one asks for.
-ghost use Rattle.std.specs.Prelude.{IfOk};
-ghost use Rattle.budget.specs.Component.{Right};
-
-use budget::component::Component;
-use budget::known;
+// The edits of a call, one after the other: each leaves a component that is known to store the right common period, which the next one takes.
+use budget::known::{Known, add_task, remove_task};
 use budget::refusal::Refusal;
 use calls::words::Words;
 
-fn add(words: &mut Words<'_>, component: Component) -> Result<Component, Refusal>
-    requires { Right component }
-    ensures { IfOk result Right }
-{
-    let task = words.task();
-    known::add_task(component, task)
-}
-
-fn remove(words: &mut Words<'_>, component: Component) -> Result<Component, Refusal>
-    requires { Right component }
-    ensures { IfOk result Right }
-{
-    let place = words.place();
-    known::remove_task(component, place)
-}
-
 // The next edit: `add` with its task, or `remove` with its place.
-fn edit_once(words: &mut Words<'_>, component: Component) -> Result<Component, Refusal>
-    requires { Right component }
-    ensures { IfOk result Right }
-{
+fn edit_once(words: &mut Words<'_>, known: Known) -> Result<Known, Refusal> {
     match words.word() {
-        [b'a', ..] => add(words, component),
-        _ => remove(words, component),
+        [b'a', ..] => add_task(known, words.task()),
+        _ => remove_task(known, words.place()),
     }
 }
 
 // The edits behind their count, up to the first that is refused.
-pub(crate) fn edit_all(words: &mut Words<'_>, component: Component) -> Result<Component, Refusal>
-    requires { Right component }
-    ensures { IfOk result Right }
-{
-    let mut edited = component;
+pub(crate) fn edit_all(words: &mut Words<'_>, known: Known) -> Result<Known, Refusal> {
+    let mut edited = known;
     for _ in 0..words.number() {
         edited = edit_once(words, edited)?;
     }

@@ -16,7 +16,7 @@ fn edit(words: &mut Words<'_>, out: &mut Out) {
     let sheet = words.row(&mut bytes);
     let place = words.place();
     match read::read_component(sheet, place) {
-        Ok(component) => match edits::edit_all(words, component) {
+        Ok(known) => match edits::edit_all(words, known) {
             Ok(edited) => shown::put_asked(out, edited),
             Err(refusal) => out.edited(Err(refusal)),
         },

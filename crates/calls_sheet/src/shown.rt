@@ -1,5 +1,6 @@
 // What an answer on a sheet shows.
-use budget::component::{Component, refused};
+use budget::component::refused;
+use budget::known::Known;
 use calls::print::Out;
 use sheet::fault::Fault;
 
@@ -18,7 +19,10 @@ pub fn put_status<T>(out: &mut Out, answered: &Result<T, Fault>) {
 }
 
 // The answer of a reading; one that is refused shows the component that stands for none.
-pub fn put_reading(out: &mut Out, answered: Result<Component, Fault>) {
+pub fn put_reading(out: &mut Out, answered: Result<Known, Fault>) {
     put_status(out, &answered);
-    out.component(answered.unwrap_or(refused()));
+    match answered {
+        Ok(known) => out.component(known.component),
+        Err(_) => out.component(refused()),
+    }
 }

@@ -19,7 +19,7 @@ fn workload(words: &mut Words<'_>, out: &mut Out) {
         Ok(loaded) => {
             out.ok();
             match loaded.workload {
-                Some(component) => out.component(component),
+                Some(known) => out.component(known.component),
                 None => out.word("waiting"),
             }
         }
