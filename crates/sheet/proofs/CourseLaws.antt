@@ -1,4 +1,4 @@
--- What the walk over pairs holds says all that the next record is judged by, at its start and behind each record: a parent holds its own tasks and
+-- What the walk over pairs notes says all that the next record is judged by, at its start and behind each record: a parent holds its own tasks and
 -- its children so far.
 use Prim.Native.Nat.{ℕ, ◌+◌, ◌-◌, ◌≤◌, ◌<◌}
 use mathlib.Core.Path.{◌≡◌, refl, sym, ap, ◌∙◌}

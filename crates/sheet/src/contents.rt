@@ -7,8 +7,8 @@ use crate::check::answer;
 use crate::fault::Fault;
 use crate::walk::walk;
 
-// The component at place k lies from edge k to edge k + 1; the places behind the last edge are 0.
-// The count stands beside the edges because memory is fixed.
+// The component at place k lies from edge k to edge k + 1; the places behind the last edge are 0. There is a place for each edge that a
+// sheet can have, since nothing here allocates.
 #[derive(Clone, Copy)]
 pub struct Contents {
     pub count: usize,

@@ -16,8 +16,8 @@ use record::layout::{Pair, Record, record_of};
 use record::write::size_of;
 
 // Where the walk stands that goes on: the byte where the next record begins, and the lowest number that the next child may have.
-#[derive(Clone, Copy, PartialEq, Eq)]
-pub struct Course {
+#[derive(Clone, Copy)]
+struct Course {
     pub place: usize,
     pub lowest: u32,
 }

@@ -12,7 +12,7 @@ use record::layout::record_of;
 
 // What the pairs are judged by of a component: one more than its number, and its tasks, each child so far counted as one.
 #[derive(Clone, Copy)]
-pub struct Noted {
+pub(crate) struct Noted {
     pub lowest: u32,
     pub tasks: u32,
 }
@@ -20,7 +20,7 @@ pub struct Noted {
 // Where the walk ends, and of each count of components the place that it held last and what it noted; 0 behind the last count. With one
 // row of states in place of the two, finding a sheet's contents took five times as long (measured).
 #[derive(Clone, Copy)]
-pub struct Walked {
+pub(crate) struct Walked {
     pub state: State,
     pub edges: [usize; 257],
     pub components: [Noted; 257],

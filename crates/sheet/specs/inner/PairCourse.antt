@@ -40,11 +40,12 @@ Turned cs es (Err r) st turned = turned ≡ stopped (refusal.number_of r) st
 abbrev pub Turns : List Noted → List Noted → Course → Result (Option Course) Refusal → (List Entry → Pairing → Pairing) → Type 0
 Turns cs after c result turn = (es : List Entry) (st : Pairing) → Kept cs es c st → Turned after es result st (turn es st)
 
--- the same of a pair alone
+-- what is answered of a pair alone follows the walk
 abbrev pub Took : List Noted → List Entry → Result Course Refusal → Pairing → Pairing → Type 0
 Took cs es (Ok next) st turned = Kept cs es next turned
 Took cs es (Err r) st turned = turned ≡ stopped (refusal.number_of r) st
 
+-- from one course on, with what is noted before and behind the pair
 abbrev pub Follows : List Noted → List Noted → Course → Result Course Refusal → (List Entry → Pairing → Pairing) → Type 0
 Follows cs after c result turn = (es : List Entry) (st : Pairing) → Kept cs es c st → Took after es result st (turn es st)
 
