@@ -7,6 +7,7 @@ pub mod LateJobs
 pub mod Latest
 pub mod LeastFirst
 pub mod Next
+pub mod Picks
 pub mod Rows
 pub mod RunLaws
 pub mod Scans

@@ -1,28 +1,29 @@
 -- A scan of the jobs from the right end: what it has found behind place k, with the job at k, gives what it has found from k on.
 use Prim.Native.Nat.{ℕ, zero, suc, ◌+◌, ◌≤◌, ◌<◌, min}
-use native.Mathlib.Nat.{add-zero}
+use native.Mathlib.Nat.{add-zero, zero-add, le_refl}
 use native.Mathlib.Numerals.{add-one}
 use native.Mathlib.Decide.{dec_lt}
 use native.Mathlib.Omega.{arith}
 use mathlib.Core.Path.{◌≡◌, refl, sym, ap, ◌∙◌}
-use borrow.Author.Tests.{lt-ltb, le-ltb, ltb-true, leb-true, leb-false, le-leb, lt-leb}
-use mathlib.Core.Bool.{Bool, true, false, cond, not, ◌&&◌, ◌||◌}
+use borrow.Author.Tests.{lt-ltb, le-ltb, leb-true, leb-false, le-leb, lt-leb}
+use mathlib.Core.Bool.{Bool, true, false, cond, not, ◌&&◌, ◌||◌, false≢true}
+use lib.IntN.{pos}
 use mathlib.Core.List.{List, [], ◌∷◌, map}
 use lib.ListN.{length, get_or, drop, length-drop, drop_of_length-le}
 use lib.Seq.{drop-cons, get_or-drop}
 use lib.Dec.{leb, ltb, eqb}
 use Rattle.std.specs.List.{filter, fold, range_with_len, reduce}
-use Rattle.std.specs.Option.{unwrap_or}
+use Rattle.std.specs.Prelude.{Option, unwrap_or}
 use Rattle.std.proofs.lemmas.List.{get_or-map}
 use Rattle.budget.specs.declared.task.Task.{Task}
 use Rattle.budget.specs.Limits.{most_tasks}
-use Rattle.budget.proofs.Valid.{both}
 use Rattle.run.specs.declared.jobs.Jobs.{Jobs}
 use Rattle.run.specs.inner.Columns.{Deadlines, OneLength, jobs_in}
-use Rattle.run.specs.inner.Scan.{goes_at, takes_over}
 use Rattle.run.specs.Job.{Job, deadline, no_job}
 use Rattle.run.specs.Order.{waits, goes_before, head_first, least_first, next, next_by}
 use Rattle.run.specs.Walk.{late, late_task}
+use Rattle.run.proofs.LeastFirst.{decides}
+use Rattle.run.proofs.Picks.{Orders, pick, found}
 use Rattle.run.proofs.Rows.{at, count}
 
 -- the cut at place k, with i the place after it
@@ -45,6 +46,22 @@ none_behind false m l i p first e long place =
 places : (b : Bool) (k i p first : ℕ) → suc k ≡ i → i + p ≡ first → k + cond b 0 (suc p) ≡ cond b k first
 places true k i p first e place = add-zero k
 places false k i p first e place = omega arith
+
+-- the job at place p goes before the one at place q: by an earlier deadline, or at the same one by a lower task
+abbrev pub goes_at : List ℕ → List ℕ → ℕ → ℕ → Bool
+goes_at due ts p q = ltb (get_or due p 0) (get_or due q 0) || (eqb (get_or due p 0) (get_or due q 0) && ltb (get_or ts p 0) (get_or ts q 0))
+
+-- the job at place k waits in slot n
+abbrev pub waits_at : List ℕ → List ℕ → ℕ → ℕ → Bool
+waits_at ready left n k = leb (get_or ready k 0) n && ltb 0 (get_or left k 0)
+
+-- the first of the jobs that wait
+abbrev pub first_waiting : List ℕ → List ℕ → List ℕ → List ℕ → ℕ → Option ℕ
+first_waiting due ts ready left n = reduce (pick (goes_at due ts)) (filter (waits_at ready left n) (range_with_len 0 (length left)))
+
+-- it is to be served rather than the one at `first`, the first of those behind it: it waits, and none waits behind it or the one there does not go before it
+abbrev takes_over : List ℕ → List ℕ → List ℕ → List ℕ → ℕ → ℕ → ℕ → Bool
+takes_over due ts ready left n k first = waits_at ready left n k && (leb (length left) first || not (goes_at due ts first k))
 
 -- whether the job at place k is late at t
 abbrev pub late_at : List ℕ → List ℕ → ℕ → ℕ → Bool
@@ -72,9 +89,23 @@ lowest_if : (f : ℕ → ℕ) (b : Bool) (k : ℕ) (ks : List ℕ) → f k < mos
 lowest_if f true k ks h = lowest_more (f k) (map f ks) h
 lowest_if f false k ks h = refl
 
--- a job that takes over waits, so it has work left
-pub taken_waits : (due ts ready left : List ℕ) (n k first : ℕ) → takes_over due ts ready left n k first ≡ true → 0 < get_or left k 0
-taken_waits due ts ready left n k first e = ltb-true 0 _ (both (leb (get_or ready k 0) n) _ (both _ _ e).0).1
+-- the order decides, as that of any jobs by a number and their tasks
+module _ (due ts : List ℕ) where
+  job_at : ℕ → Job
+  job_at p = record { task = get_or ts p 0; release = pos 0; ready = get_or due p 0; work = 0 }
+
+  flipped : (a b c : Job) (z : Bool) → least_first (λ j. j.ready) a c ≡ z → least_first (λ j. j.ready) a b ≡ true → least_first (λ j. j.ready) b c ≡ true → z ≡ true
+  flipped a b c true e p q = refl
+  flipped a b c false e p q =
+      absurd (false≢true (sym ((decides (λ j. j.ready)).through a c b e ((decides (λ j. j.ready)).once b c q)) ∙ p))
+
+  pub orders : Orders (goes_at due ts)
+  unfolding least_first job_at
+  orders =
+      record {
+        through = λ i k p. (decides (λ j. j.ready)).through (job_at i) (job_at k) (job_at p);
+        forth = λ i k p. flipped (job_at i) (job_at k) (job_at p) _ refl;
+      }
 
 module _ (ks : List Task) (jobs : Jobs) (even : OneLength jobs) (due left : List ℕ) (dues : Deadlines ks (jobs_in jobs) due)
     (same : length left ≡ length jobs.tasks.now) where
@@ -94,7 +125,7 @@ module _ (ks : List Task) (jobs : Jobs) (even : OneLength jobs) (due left : List
   unfolding late_task
   late_end t m h = rw (drop_of_length-le (jobs_in jobs) {i = m} (omega (arith, count jobs even)))
 
-  pub next_end : (n m : ℕ) → length left ≤ m → m + next ks n (drop m (jobs_in jobs)) (drop m left) ≡ m
+  next_end : (n m : ℕ) → length left ≤ m → m + next ks n (drop m (jobs_in jobs)) (drop m left) ≡ m
   unfolding next_by
   next_end n m h = rw (drop_of_length-le (jobs_in jobs) {i = m} (omega (arith, count jobs even))) (add-zero m)
 
@@ -125,7 +156,7 @@ module _ (ks : List Task) (jobs : Jobs) (even : OneLength jobs) (due left : List
           (ap (λ (b : Bool). (leb (get_or jobs.ready.now k 0) n && ltb 0 (get_or left k 0)) && b)
           (or_same (leb (length left) first) _ _ (λ f. ap not (before (leb-false _ _ f)))))
 
-    pub next_step : (n first : ℕ) → i + next ks n (drop i (jobs_in jobs)) (drop i left) ≡ first
+    next_step : (n first : ℕ) → i + next ks n (drop i (jobs_in jobs)) (drop i left) ≡ first
         → k + next ks n (drop k (jobs_in jobs)) (drop k left) ≡ cond (takes_over due jobs.tasks.now jobs.ready.now left n k first) k first
     unfolding next_by
     next_step n first found =
@@ -140,3 +171,11 @@ module _ (ks : List Task) (jobs : Jobs) (even : OneLength jobs) (due left : List
   late_least numbered t k (suc n) e =
       lowest_if (λ i. get_or jobs.tasks.now i 0) (late_at due left t k) k (filter (late_at due left t) (range_with_len (k + 1) n)) (numbered k (omega arith))
       ∙ rw (late_least numbered t (k + 1) n (omega arith)) (sym (late_step k (k + 1) (sym (add-one k)) (omega arith) t _ refl))
+
+  -- the job that slot n serves is the first of those that wait
+  pub next_first : (n : ℕ) → unwrap_or (first_waiting due jobs.tasks.now jobs.ready.now left n) (length left) ≡ next ks n (jobs_in jobs) left
+  next_first n =
+      found (goes_at due jobs.tasks.now) (orders due jobs.tasks.now) (waits_at jobs.ready.now left n) (length left)
+      (λ k. k + next ks n (drop k (jobs_in jobs)) (drop k left)) (next_end n (length left) (le_refl _))
+      (λ k h. next_step k (k + 1) (sym (add-one k)) h n _ refl) 0 (length left) (zero-add _)
+      ∙ zero-add _

@@ -3,7 +3,7 @@ ghost use Rattle.std.specs.Prelude.{ℕ, ◌+◌, ◌≤◌, ◌<◌, cond, ◌&
 ghost use Rattle.budget.specs.declared.task.Task.{Task};
 ghost use Rattle.budget.specs.Limits.{most_tasks};
 ghost use Rattle.run.specs.inner.Columns.{Deadlines, OneLength, jobs_in};
-ghost use Rattle.run.specs.inner.Scan.{Slotted, idle_of, served_of, takes_over, goes_at};
+ghost use Rattle.run.specs.inner.Scan.{Slotted, idle_of, served_of};
 ghost use Rattle.run.specs.Order.{next};
 ghost use Rattle.run.specs.Walk.{late_task};
 
@@ -28,42 +28,17 @@ pub(crate) struct Timed<'a> {
 }
 
 impl Timed<'_> {
-    // Whether the job at place p goes before the one at place q: by an earlier deadline, or at the same one by a lower task.
-    fn goes_before(&self, p: usize, q: usize) -> bool
-        requires { (p < length self.now.due.now) × (q < length self.now.due.now) }
-        ensures { result ≡ goes_at self.now.due.now self.now.jobs.tasks.now p q }
-    {
-        self.due[p] < self.due[q]
-            || (self.due[p] == self.due[q] && self.jobs.tasks[p] < self.jobs.tasks[q])
-    }
-
-    // Whether the job at place i is to be served in slot n rather than the first of those behind it.
-    fn takes_over(&self, left: &[u32], n: u32, i: usize, first: Option<usize>) -> bool
-        requires { (length left.now ≡ length self.now.due.now) × (i < length left.now) × IfSome first (λ p. p < length left.now) }
-        ensures { result ≡ takes_over self.now.due.now self.now.jobs.tasks.now self.now.jobs.ready.now left.now n i (unwrap_or first (length left.now)) }
-    {
-        if n < self.jobs.ready[i] || left[i] == 0 {
-            return false;
-        }
-        match first {
-            Some(first) => !self.goes_before(first, i),
-            None => true,
-        }
-    }
-
-    // The place of the job that a supplied slot n serves.
+    // The place of the job that a supplied slot n serves: of those that wait the one with the earliest deadline, and of equal ones that of the lower task.
     fn choose(&self, left: &[u32], n: u32) -> Option<usize>
         requires { length left.now ≡ length self.now.due.now }
         ensures value { (ks : List Task) → Deadlines ks (jobs_in self.now.jobs) self.now.due.now → unwrap_or result (length left.now) ≡ next ks n (jobs_in self.now.jobs) left.now }
         ensures waiting { IfSome result (λ p. (p < length left.now) × (0 < get_or left.now p 0)) }
     {
-        let mut first = None;
-        for i in (0..left.len()).rev() {
-            if self.takes_over(left, n, i, first) {
-                first = Some(i);
-            }
-        }
-        first
+        (0..left.len())
+            .filter(|&i| self.jobs.ready[i] <= n && 0 < left[i])
+            .map(|i| (self.due[i], self.jobs.tasks[i], i))
+            .min()
+            .map(|(_, _, i)| i)
     }
 
     // The lowest task number of the jobs late at instant t.
