@@ -34,7 +34,7 @@ fn read_tasks(part: &[u8], start: usize) -> Table
     table
 }
 
-// The component of a record and a table. No record holds its common period: that is worked out here, once.
+// The component of a record and a table. No record holds its common period: that is worked out here, once. (No `From`: its types are of crates below.)
 fn with_head(head: Head, table: Table) -> Component
     ensures { result ≡ record { number = head.number; period = head.period; capacity = head.capacity; deadline = head.deadline; common = common_of head.period.0 (tasks_of table); table = table } }
 {
@@ -83,11 +83,11 @@ pub fn part_at<'a>(sheet: &'a [u8], edges: &[usize; 257], place: usize) -> &'a [
     ensures { result.now ≡ part_at sheet.now edges.now place }
 {
     if MOST_COMPONENTS <= place {
-        return &sheet[..0];
+        return &[];
     }
     let from = edges[place];
     let to = edges[place + 1];
-    sheet.get(from..to).unwrap_or(&sheet[..0])
+    sheet.get(from..to).unwrap_or(&[])
 }
 
 // Reads the component at a place of a sheet whose edges are known.

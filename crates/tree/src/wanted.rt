@@ -1,4 +1,4 @@
-// The numbers of the components that are wanted, in a row without a heap.
+// The numbers of the components that are wanted, in a row of fixed length: the kit's ArrayVec is made with an allocator, and this crate has none.
 ghost use Rattle.std.specs.Prelude.{◌≡◌, ◌<◌, [], ◌∷◌, ◌++◌, length};
 ghost use Rattle.tree.specs.inner.Below.{holds};
 
