@@ -20,7 +20,7 @@ use Rattle.budget.proofs.DemandLaws.{jobs_next_after, jobs_same_until, jobs_at_n
 use Rattle.budget.proofs.Valid.{ValidTask, valid_at}
 use Rattle.judge.specs.declared.steps.Step.{Step}
 use Rattle.judge.specs.declared.steps.Steps.{Steps}
-use Rattle.judge.specs.inner.Steps.{Begun, Passed, Steppable, Stepped, due_work, passed}
+use Rattle.judge.specs.inner.Steps.{Begun, Holds, Passed, Steppable, Stepped, column, due_work, passed}
 
 -- the first deadline of a task after an instant
 abbrev pub next_deadline : Task → ℕ → ℕ
@@ -67,19 +67,36 @@ demand_none : (t : ℕ) → demand [] t ≡ 0
 unfolding demand
 demand_none t = refl
 
-due_none : (ks : List Task) (due : List ℕ) (at : ℕ) → due_work ks due at 0 ≡ 0
+due_none : (work : ℕ → ℕ) (due : List ℕ) (at : ℕ) → due_work work due at 0 ≡ 0
 unfolding due_work
-due_none ks due at = refl
+due_none work due at = refl
 
-due_more : (ks : List Task) (due : List ℕ) (at n : ℕ) → due_work ks due at (suc n) ≡ due_work ks due at n + cond (eqb (get_or due n 0) at) (C (get_or ks n no_task)) 0
+due_more : (work : ℕ → ℕ) (due : List ℕ) (at n : ℕ) → due_work work due at (suc n) ≡ due_work work due at n + cond (eqb (get_or due n 0) at) (work n) 0
 unfolding due_work
-due_more ks due at n = refl
+due_more work due at n = refl
+
+-- the work due depends on the works of those tasks alone
+due_same : (a b : ℕ → ℕ) (due : List ℕ) (at n : ℕ) → ((j : ℕ) → j < n → a j ≡ b j) → due_work a due at n ≡ due_work b due at n
+due_same a b due at zero h = due_none a due at ∙ sym (due_none b due at)
+due_same a b due at (suc n) h =
+    due_more a due at n
+    ∙ ap₂ (λ (x y : ℕ). x + cond (eqb (get_or due n 0) at) y 0) (due_same a b due at n (λ j l. h j (omega arith))) (h n (omega arith))
+    ∙ sym (due_more b due at n)
+
+-- the periods and the works of these tasks by place
+abbrev periods : List Task → ℕ → ℕ
+periods ks j = T (get_or ks j no_task)
+
+abbrev works : List Task → ℕ → ℕ
+works ks j = C (get_or ks j no_task)
 
 -- what a walk over these tasks carries to its next instant: their next deadlines and the demand of the instant before it
 pub record Carried (ks : List Task) (s : Steps) : Type 0 where
   pub before : ℕ
   pub is : s.at ≡ suc before
-  pub tasks : s.tasks.now ≡ ks
+  pub count : s.count ≡ length ks
+  pub period : Holds (λ k. T k) ks s.period
+  pub work : Holds (λ k. C k) ks s.work
   pub long : length s.due ≡ most_tasks
   pub due : Due ks s.due before
   pub known : s.demand ≡ demand ks before
@@ -110,8 +127,8 @@ module _ (ks : List Task) (v : valid_tasks ks ≡ true) where
 
   -- the first n tasks of the table: their demand at the next instant is that of now and the work due there
   demand_first : (due : List ℕ) (p : ℕ) → Due ks due p → (n : ℕ) → n ≤ length ks
-      → demand (take n ks) (suc p) ≡ demand (take n ks) p + due_work ks due (suc p) n
-  demand_first due p d zero h = omega (arith, demand_none (suc p), demand_none p, due_none ks due (suc p))
+      → demand (take n ks) (suc p) ≡ demand (take n ks) p + due_work (works ks) due (suc p) n
+  demand_first due p d zero h = omega (arith, demand_none (suc p), demand_none p, due_none (works ks) due (suc p))
   demand_first due p d (suc n) h =
       let k = get_or ks n no_task in
       let split : (t : ℕ) → demand (take (suc n) ks) t ≡ demand (take n ks) t + jobs_by k t * C k
@@ -120,15 +137,15 @@ module _ (ks : List Task) (v : valid_tasks ks ≡ true) where
         arith,
         split (suc p),
         split p,
-        due_more ks due (suc p) n,
+        due_more (works ks) due (suc p) n,
         ap (λ (x : ℕ). cond (eqb x (suc p)) (C k) 0) (d n h),
         demand_first due p d n (omega arith),
         one_due k p (rises k (valid_at ks v n h) p),
       )
 
-  demand_next : (due : List ℕ) (p : ℕ) → Due ks due p → demand ks (suc p) ≡ demand ks p + due_work ks due (suc p) (length ks)
+  demand_next : (due : List ℕ) (p : ℕ) → Due ks due p → demand ks (suc p) ≡ demand ks p + due_work (works ks) due (suc p) (length ks)
   demand_next due p d =
-      subst (λ (l : List Task). demand l (suc p) ≡ demand l p + due_work ks due (suc p) (length ks)) (take-length ks)
+      subst (λ (l : List Task). demand l (suc p) ≡ demand l p + due_work (works ks) due (suc p) (length ks)) (take-length ks)
       (demand_first due p d (length ks) (omega arith))
 
   module _ (s : Steps) (c : Carried ks s) where
@@ -136,10 +153,13 @@ module _ (ks : List Task) (v : valid_tasks ks ≡ true) where
     carried_steppable few h =
         record {
           long = c.long;
-          few = rw c.tasks few;
+          few = rw c.count few;
           at_fits = h;
           demand_fits = le_trans (le_of_eq c.known) (le_trans (demand_bound ks v c.before) (mul-le-mul {m₂ = 2 * limit} few (omega (arith, c.is))));
-          tasks_fit = rw c.tasks (λ j g. let w = valid_at ks v j g in (omega (arith, w), omega (arith, w)));
+          tasks_fit = λ j l.
+              let g : j < length ks = omega (arith, c.count) in
+              let w = valid_at ks v j g in
+              (omega (arith, c.period j g, w), omega (arith, c.work j g, w));
         }
 
     pub moved : s.at ≤ limit → (r : Steps) (step : Step) → Stepped s r step → Moved ks c.before r step
@@ -155,17 +175,26 @@ module _ (ks : List Task) (v : valid_tasks ks ≡ true) where
               record {
                 before = r.at - 1;
                 is = omega (arith, further);
-                tasks = w.tasks ∙ c.tasks;
+                count = w.count ∙ c.count;
+                period = rw w.period c.period;
+                work = rw w.work c.work;
                 long = w.passed.long ∙ c.long;
                 due = due_still r.due (suc c.before) (r.at - 1) passed_on (omega (arith, further)) below;
                 known = total ∙ sym (demand_still r.due (suc c.before) (r.at - 1) passed_on (omega (arith, further)) below);
               };
         }
       where
-        passed_all : Passed ks s.due r.due (length ks) (suc c.before) s.demand r.demand r.at
+        passed_all : Passed (periods ks) (works ks) s.due r.due (length ks) (suc c.before) s.demand r.demand r.at
         passed_all =
-            subst (λ (t : ℕ). Passed ks s.due r.due (length ks) t s.demand r.demand r.at) c.is
-            (subst (λ (l : List Task). Passed l s.due r.due (length l) s.at s.demand r.demand r.at) c.tasks w.passed)
+            let q = subst (λ (n : ℕ). Passed (column s.period) (column s.work) s.due r.due n (suc c.before) s.demand r.demand r.at) c.count
+            (subst (λ (t : ℕ). Passed (column s.period) (column s.work) s.due r.due s.count t s.demand r.demand r.at) c.is w.passed) in
+            record {
+              long = q.long;
+              done = λ j g. q.done j g ∙ ap (λ (t : ℕ). passed (suc c.before) t (get_or s.due j 0)) (c.period j g);
+              left = q.left;
+              demand = q.demand ∙ ap (λ (x : ℕ). s.demand + x) (due_same (column s.work) (works ks) s.due (suc c.before) (length ks) c.work);
+              least = q.least;
+            }
 
         passed_on : Due ks r.due (suc c.before)
         passed_on j g =
@@ -176,7 +205,7 @@ module _ (ks : List Task) (v : valid_tasks ks ≡ true) where
         total : r.demand ≡ demand ks (suc c.before)
         total =
             passed_all.demand
-            ∙ ap (λ (x : ℕ). x + due_work ks s.due (suc c.before) (length ks)) c.known
+            ∙ ap (λ (x : ℕ). x + due_work (works ks) s.due (suc c.before) (length ks)) c.known
             ∙ sym (demand_next s.due c.before c.due)
 
         further : suc c.before < r.at
@@ -195,7 +224,9 @@ carried_start ks v s b =
     record {
       before = 0;
       is = b.at;
-      tasks = b.tasks;
+      count = b.count;
+      period = b.period;
+      work = b.work;
       long = b.long;
       due = λ j l. let k = get_or ks j no_task in b.due j l ∙ omega (arith, ap (λ (x : ℕ). x * T k) (jobs_zero k (valid_at ks v j l)));
       known = b.demand ∙ sym (demand_zero ks v);

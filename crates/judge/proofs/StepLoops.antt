@@ -13,18 +13,16 @@ use native.Mathlib.Decide.{dec_le}
 use native.Mathlib.Nat.{ne_of_lt, lt_irrefl, add_assoc, add-zero}
 use native.Mathlib.Numerals.{add-one}
 use native.Mathlib.Omega.{arith}
-use Rattle.budget.specs.declared.task.Task.{Task}
 use Rattle.budget.specs.Limits.{limit}
-use Rattle.budget.specs.Task.{T, C, no_task}
 use Rattle.judge.specs.inner.Steps.{Passed, Next, passed, due_work}
 
 -- before the first task
-pub passed_none : (ks : List Task) (before : List ℕ) (at asked : ℕ) → Passed ks before before 0 at asked asked (suc limit)
+pub passed_none : (period work : ℕ → ℕ) (before : List ℕ) (at asked : ℕ) → Passed period work before before 0 at asked asked (suc limit)
 unfolding due_work
-passed_none ks before at asked =
+passed_none period work before at asked =
     record {
       long = refl;
-      done = below_none (λ j. get_or before j 0 ≡ passed at (T (get_or ks j no_task)) (get_or before j 0));
+      done = below_none (λ j. get_or before j 0 ≡ passed at (period j) (get_or before j 0));
       left = λ j h. refl;
       demand = omega arith;
       least = record { low = below_none (λ j. suc limit ≤ get_or before j 0); attained = inl refl };
@@ -50,35 +48,35 @@ next_more due n next w =
     pick (no h) a = inr (n, omega arith, omega arith)
 
 -- the work due of one task more
-due_more : (ks : List Task) (due : List ℕ) (at n : ℕ) → due_work ks due at n + cond (eqb (get_or due n 0) at) (C (get_or ks n no_task)) 0 ≡ due_work ks due at (n + 1)
+due_more : (work : ℕ → ℕ) (due : List ℕ) (at n : ℕ) → due_work work due at n + cond (eqb (get_or due n 0) at) (work n) 0 ≡ due_work work due at (n + 1)
 unfolding due_work
-due_more ks due at n = rw add-one
+due_more work due at n = rw add-one
 
 -- one task more: `after'` differs from `after` at that task at most, where it holds the deadline once the instant has passed
-module _ (ks : List Task) (before after after' : List ℕ) (n at asked sum next deadline sum' next' : ℕ) (p : Passed ks before after n at asked sum next) where
+module _ (period work : ℕ → ℕ) (before after after' : List ℕ) (n at asked sum next deadline sum' next' : ℕ) (p : Passed period work before after n at asked sum next) where
   old : get_or after n 0 ≡ get_or before n 0
   old = p.left n (omega arith)
 
   pub passed_more : length after' ≡ length after
       → ((j : ℕ) → j ≢ n → get_or after' j 0 ≡ get_or after j 0)
       → get_or after' n 0 ≡ deadline
-      → deadline ≡ passed at (T (get_or ks n no_task)) (get_or after n 0)
-      → sum' ≡ sum + cond (eqb (get_or after n 0) at) (C (get_or ks n no_task)) 0
+      → deadline ≡ passed at (period n) (get_or after n 0)
+      → sum' ≡ sum + cond (eqb (get_or after n 0) at) (work n) 0
       → next' ≡ min next deadline
-      → Passed ks before after' (n + 1) at asked sum' next'
+      → Passed period work before after' (n + 1) at asked sum' next'
   passed_more long others here is more least =
       record {
         long = long ∙ p.long;
         done =
-            below_more (λ j. get_or after' j 0 ≡ passed at (T (get_or ks j no_task)) (get_or before j 0)) n
+            below_more (λ j. get_or after' j 0 ≡ passed at (period j) (get_or before j 0)) n
             (λ j h. others j (ne_of_lt h) ∙ p.done j h)
-            (here ∙ is ∙ ap (λ (x : ℕ). passed at (T (get_or ks n no_task)) x) old);
+            (here ∙ is ∙ ap (λ (x : ℕ). passed at (period n) x) old);
         left = λ j h. others j (λ e. lt_irrefl n (omega arith)) ∙ p.left j (omega arith);
         demand =
             more
-            ∙ ap₂ (λ (a b : ℕ). a + cond (eqb b at) (C (get_or ks n no_task)) 0) p.demand old
+            ∙ ap₂ (λ (a b : ℕ). a + cond (eqb b at) (work n) 0) p.demand old
             ∙ add_assoc asked _ _
-            ∙ ap (λ (x : ℕ). asked + x) (due_more ks before at n);
+            ∙ ap (λ (x : ℕ). asked + x) (due_more work before at n);
         least =
             subst (λ (x : ℕ). Next after' (n + 1) x) (ap (λ (x : ℕ). min next x) here ∙ sym least)
             (next_more after' n next (next_kept p.least));
@@ -92,9 +90,9 @@ module _ (ks : List Task) (before after after' : List ℕ) (n at asked sum next 
           }
 
   -- the task is due at the instant
-  pub passed_due : n < length after → get_or after n 0 ≡ at → after' ≡ set after n (get_or after n 0 + T (get_or ks n no_task)) → sum' ≡ sum + C (get_or ks n no_task)
-      → next' ≡ min next (get_or after n 0 + T (get_or ks n no_task)) → deadline ≡ get_or after n 0 + T (get_or ks n no_task)
-      → Passed ks before after' (n + 1) at asked sum' next'
+  pub passed_due : n < length after → get_or after n 0 ≡ at → after' ≡ set after n (get_or after n 0 + period n) → sum' ≡ sum + work n
+      → next' ≡ min next (get_or after n 0 + period n) → deadline ≡ get_or after n 0 + period n
+      → Passed period work before after' (n + 1) at asked sum' next'
   unfolding passed
   passed_due h e is more least d =
       passed_more
@@ -107,7 +105,7 @@ module _ (ks : List Task) (before after after' : List ℕ) (n at asked sum next 
 
   -- the task is due later
   pub passed_later : (get_or after n 0 ≡ at → ⊥) → after' ≡ after → sum' ≡ sum → deadline ≡ get_or after n 0 → next' ≡ min next (get_or after n 0)
-      → Passed ks before after' (n + 1) at asked sum' next'
+      → Passed period work before after' (n + 1) at asked sum' next'
   unfolding passed
   passed_later ne is same d least =
       passed_more
