@@ -7,7 +7,8 @@ use crate::check::answer;
 use crate::fault::Fault;
 use crate::walk::walk;
 
-// The component at place k lies from edge k to edge k + 1; the places behind the last edge are 0.
+// The component at place k lies from edge k to edge k + 1; the places behind the last edge are 0. There is a place for each edge that a
+// sheet can have, since nothing here allocates.
 #[derive(Clone, Copy)]
 pub struct Contents {
     pub count: usize,
@@ -22,6 +23,6 @@ pub fn contents_of(sheet: &[u8]) -> Result<Contents, Fault>
     let count = answer(sheet, &found)?;
     Ok(Contents {
         count,
-        edges: found.held.map(|state| state.place),
+        edges: found.edges,
     })
 }

@@ -1,4 +1,4 @@
--- The loop's invariant: the answer from the start is the answer from here, and what is held follows the walk. What is left of the sheet falls.
+-- The loop's invariant: the answer from the start is the answer from here, and what is noted follows the walk. What is left of the sheet falls.
 use Prim.Native.Nat.{◌-◌}
 use lib.ListN.{length}
 use Rattle.sheet.specs.inner.PairCourse.{entries_in}

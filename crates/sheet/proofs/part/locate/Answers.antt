@@ -1,15 +1,8 @@
 -- Refused, the component is nowhere; else it lies between two of the edges answered.
-use Prim.Native.Nat.{◌≤◌}
 use native.Mathlib.Omega.{arith}
-use borrow.Author.Rules.{rules}
 use Rattle.std.proofs.lemmas.Result.{err_from_is_err_and}
 use Rattle.sheet.proofs.PartLaws.{few, located_refused, located_nowhere, located_found}
 use Rattle.sheet.proofs.part.locate.Goals as goal
-use Rattle.sheet.proofs.part.locate.Goals.{In_ok-found}
-
--- the edges are those of a sheet that is taken
-bounded : (c : In_ok-found) → c.in_ok-found.found.count ≤ 256
-bounded c = few _ c.args.place c.in_ok-found.found c.in_ok-found.ensures
 
 pub returns-in_err-found : goal.returns-in_err-found
 returns-in_err-found c =
