@@ -1,5 +1,5 @@
 -- What the walk may rely on where nothing is refused: each rule that its refusal goes down, as facts about the numbers.
-use Prim.Native.Nat.{ℕ, zero, suc, ◌^◌, ◌≤◌, ◌<◌}
+use Prim.Native.Nat.{ℕ, zero, suc, ◌≤◌, ◌<◌}
 use native.Mathlib.Nat.{le_of_suc-le-suc, not-suc-le-zero}
 use native.Mathlib.Omega.{arith}
 use mathlib.Core.Path.{◌≡◌, refl, ap}
@@ -13,18 +13,17 @@ use borrow.Author.Tests.{ltb-false, leb-true, eqb-true, eqb-false, eq-eqb}
 use Rattle.budget.specs.declared.task.Table.{Table}
 use Rattle.budget.specs.Limits.{most_tasks}
 use Rattle.budget.specs.Refusal as refusal
-use Rattle.budget.specs.Task.{D, no_task, valid_tasks, tasks_of, table_refusal}
+use Rattle.budget.specs.Task.{D, valid_tasks, tasks_of, table_refusal}
 use Rattle.budget.proofs.Valid.{both, span_fits, valid_at}
 use Rattle.trace.specs.Answer.{longest}
 use Rattle.trace.specs.Legal.{zeros_and_ones}
-use Rattle.run.specs.Job.{task_of, legal_arrival, no_job}
+use Rattle.run.specs.Job.{Job, deadline, task_of, legal_arrival, no_job}
 use Rattle.run.specs.Run.{left_at}
 use Rattle.run.specs.Walk.{most_jobs, jobs_of, released_before, valid_jobs, valid_trace, walk_refusal, stop, walked_to, walk_answer, left_after}
-use Rattle.run.specs.inner.Scan.{due_of}
+use Rattle.run.specs.inner.Columns.{Timely}
 use Rattle.run.proofs.Arrival.{arrival_at, valid_in, valid_job_lem}
-use Rattle.run.proofs.JobRules.{deadline_at, lists, task_at_lem, tasks_length}
 use Rattle.run.proofs.Latest.{due_of_latest}
-use Rattle.run.proofs.Scans.{column, column_length}
+use Rattle.run.proofs.Rows.{even}
 use Rattle.run.proofs.Shifted.{from_zero_most}
 
 -- a row of refusals with none: the first is none, and so are the others
@@ -106,29 +105,25 @@ task_few table ts rs ready ws s room a q h =
       a.tasks.few,
     )
 
--- a job's task is there, and its deadline lies behind slot 0 and fits a u32 with room to count from the earliest slot
-pub job_fine : (table : Table) (ts : List ℕ) (rs : List ℤ) (ready ws s : List ℕ) (room : ℕ) → table.count ≤ length table.tasks
-    → Accepted table ts rs ready ws s room → (k : ℕ) → k < length ts
-    → (get_or ts k 0 < table.count) × (0 < due_of table.tasks ts rs k) × (due_of table.tasks ts rs k < 2 ^ 31)
-unfolding task_of
-job_fine table ts rs ready ws s room fits a k h =
+-- a job's task is there, and its deadline lies behind slot 0 and fits
+pub job_fine : (table : Table) (ts : List ℕ) (rs : List ℤ) (ready ws s : List ℕ) (room : ℕ) → Accepted table ts rs ready ws s room
+    → (k : ℕ) → k < length ts → Timely (tasks_of table) (get_or (jobs_of ts rs ready ws) k no_job)
+unfolding deadline task_of
+job_fine table ts rs ready ws s room a k h =
     let ks = tasks_of table in
     let js = jobs_of ts rs ready ws in
-    let l = lists ts rs ready ws a.releases_long a.ready_long a.works_long in
-    let hj : k < length js = omega (arith, column_length _ js _ l.tasks) in
-    let good = valid_in ks js a.legal k hj in
+    let l = even ts rs ready ws a.releases_long a.ready_long a.works_long in
+    let good = valid_in ks js a.legal k (omega (arith, l.count)) in
     let there = (valid_job_lem ks (get_or js k no_job) good).numbered in
-    let at : (get_or js k no_job).task ≡ get_or ts k 0 = column (λ j. j.task) js ts l.tasks k hj in
-    let long = tasks_length table fits in
-    let inside : get_or ts k 0 < table.count = omega arith in
     let task = valid_at ks a.tasks.valid (get_or js k no_job).task there in
-    let same = ap D (task_at_lem table fits js ts l.tasks k hj inside) in
-    let due = deadline_at table fits js ts l.tasks k hj rs l.releases inside in
-    let soon = from_zero_most (length s) (D (get_or table.tasks (get_or ts k 0) no_task)) (get_or rs k (pos 0)) (released_at_lem (length s) rs a.released k (omega (arith, a.releases_long))) in (
-      inside,
-      omega (arith, due_of_latest ks a.tasks.valid (get_or js k no_job) good, span_fits _ task, task.works),
-      omega (arith, soon, task.within, task.bounded, a.short),
-    )
+    let released = released_at_lem (length s) rs a.released k (omega (arith, a.releases_long)) in
+    let early = rw (← (ap (λ (j : Job). j.release) (l.at k h))) at released in
+    let soon = from_zero_most (length s) (D (task_of ks (get_or js k no_job))) (get_or js k no_job).release early in
+    record {
+      there = there;
+      behind = omega (arith, due_of_latest ks a.tasks.valid (get_or js k no_job) good, span_fits _ task, task.works);
+      fits = omega (arith, soon, task.within, task.bounded, a.short);
+    }
 
 -- the answer and the buffer where nothing is refused
 pub answer_accepted : (table : Table) (ts : List ℕ) (rs : List ℤ) (ready ws s : List ℕ) (room : ℕ) → walk_refusal table ts rs ready ws s room ≡ 0

@@ -22,8 +22,8 @@ use Rattle.run.specs.Order.{goes_before, next}
 use Rattle.run.specs.Run.{earliest_deadline, serve, slot_by, left_at, left_by}
 use Rattle.run.specs.Walk.{jobs_of, served_in, idle_in, served_before, idle_before, stop, valid_trace, walked_to}
 use Rattle.run.proofs.Accepted.{accepted, answer_accepted, left_accepted}
-use Rattle.run.proofs.JobRules.{lists}
 use Rattle.run.proofs.Next.{next_waits, waits_then}
+use Rattle.run.proofs.Rows.{even}
 use Rattle.run.proofs.RunLaws.{left_length}
 
 -- one more slot of a trace
@@ -81,7 +81,7 @@ walk_conserves table ts rs ready ws s left e =
     let a = accepted table ts rs ready ws s (length left) e in
     let ks = tasks_of table in
     let js = jobs_of ts rs ready ws in
-    let l = lists ts rs ready ws a.releases_long a.ready_long a.works_long in
+    let l = even ts rs ready ws a.releases_long a.ready_long a.works_long in
     record {
       slots = rw (answer_accepted table ts rs ready ws s (length left) e) (slots_are_served_or_idle ks js s a.bits (stop ks js s));
       work =

@@ -14,11 +14,11 @@ use Rattle.budget.specs.declared.task.Task.{Task}
 use Rattle.budget.specs.Limits.{most_tasks}
 use Rattle.budget.specs.Task.{tasks_of}
 use Rattle.budget.proofs.Valid.{both, and_true}
-use Rattle.run.specs.declared.walk.Miss.TheVariants.{None, At}
 use Rattle.run.specs.FirstMiss.{Says, WalkTellsFirstMiss}
 use Rattle.run.specs.Job.{Job, deadline, no_job}
 use Rattle.run.specs.Run.{left_at, MissAt}
 use Rattle.run.proofs.Accepted.{accepted, answer_accepted, task_few}
+use Rattle.run.specs.Walked.{None, At}
 use Rattle.run.specs.Walk.{jobs_of, late, late_task, missed, miss_of, stop_from, stop, walked_to}
 
 -- the lowest late task is a late job's

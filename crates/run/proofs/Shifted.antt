@@ -1,18 +1,17 @@
 -- Signed slots by natural numbers: two slots moved on alike keep their order, so where slots are counted from one early enough, their order and
 -- their sums are those of natural numbers.
 use Prim.Native.Nat.{ℕ, zero, suc, ◌+◌, ◌-◌, ◌^◌, ◌≤◌, ◌<◌}
-use mathlib.Core.Path.{◌≡◌, refl, sym, ap, ap₂, subst, ◌∙◌}
+use mathlib.Core.Path.{◌≡◌, refl, sym, ap₂, ◌∙◌}
 use mathlib.Core.Bool.{Bool, true, false, cond, false≢true}
-use lib.Dec.{leb, ltb, leb-zero, leb-suc-zero, leb-suc-suc}
-use lib.IntN.{ℤ, pos, negsuc, suc_ℤ, ◌+ℤ◌, +ℤ_idr, +ℤ-suc_ℤ, +ℤ_assoc, suc_ℤ-+ℤ, pos-ne-negsuc}
+use lib.Dec.{ltb, leb-zero, leb-suc-zero, leb-suc-suc}
+use lib.IntN.{ℤ, pos, negsuc, suc_ℤ, ◌+ℤ◌, +ℤ_idr, +ℤ-suc_ℤ}
 use lib.Signed.{le_z, lt_z, mag}
-use borrow.Author.Tests.{leb-true, ltb-true, le-ltb}
+use borrow.Author.Tests.{leb-true, ltb-true}
 use native.Mathlib.Omega.{arith}
 use mir.Syntax.{w32}
 use mir.Val.{of_z, to_z}
 use mir.ValLaws.{to_z-of_z}
 use Rattle.run.specs.Job.{from_zero}
-use Rattle.run.specs.inner.Scan.{Shifted, before_zero}
 
 -- one slot on
 one_on : (x y : ℤ) → le_z (suc_ℤ x) (suc_ℤ y) ≡ le_z x y
@@ -57,55 +56,6 @@ pub from_zero_most : (end n : ℕ) (z : ℤ) → lt_z z (pos end) ≡ true → f
 from_zero_most end n (pos a) e = omega (arith, ltb-true a end e)
 from_zero_most end n (negsuc a) e = omega (arith, no_more (ltb n (suc a)) (suc a - suc n) (n - suc a))
 
--- the laws of slots counted from the earliest one
-pub shifted_slot : (a : ℕ) → Shifted (pos a) (a + before_zero)
-shifted_slot a = record { is = refl }
-
-pub shifted_le : {x y : ℤ} {m n : ℕ} → Shifted x m → Shifted y n → le_z x y ≡ leb m n
-shifted_le {x} {y} e f = sym (moved x y before_zero) ∙ ap₂ le_z e.is f.is
-
-pub shifted_lt : {x y : ℤ} {m n : ℕ} → Shifted x m → Shifted y n → lt_z x y ≡ ltb m n
-shifted_lt {x} {y} {m} {n} e f =
-    let after : Shifted (suc_ℤ x) (suc m) = record { is = suc_ℤ-+ℤ x (pos before_zero) ∙ ap suc_ℤ e.is } in
-    next_slot x y ∙ shifted_le after f
-
-pub shifted_on : {x : ℤ} {m : ℕ} → Shifted x m → (n : ℕ) → Shifted (x +ℤ pos n) (m + n)
-shifted_on {x} e n =
-    let turned : n + before_zero ≡ before_zero + n = omega arith in
-    record {
-      is =
-          +ℤ_assoc x (pos n) (pos before_zero)
-          ∙ ap (λ (k : ℕ). x +ℤ pos k) turned
-          ∙ sym (+ℤ_assoc x (pos before_zero) (pos n))
-          ∙ ap (λ (z : ℤ). z +ℤ pos n) e.is;
-    }
-
-sooner : (b : Bool) (m k n : ℕ) → cond b (negsuc m) (pos k) ≡ pos n → k ≤ before_zero → n ≤ before_zero
-sooner true m k n e h = absurd (pos-ne-negsuc n m (sym e))
-sooner false m k n e h =
-    let same = ap from_zero e in
-    omega arith
-
-pub shifted_from_zero : {z : ℤ} {n : ℕ} → Shifted z n → from_zero z ≡ n - before_zero
-shifted_from_zero {z = pos a} e =
-    let same = ap from_zero e.is in
-    omega arith
-shifted_from_zero {z = negsuc a} e = omega (arith, sooner (ltb before_zero (suc a)) _ _ _ e.is (omega arith))
-
--- every signed number of 32 bits is so counted
-pub record Counted (z : ℤ) : Type 0 where
-  pub slot : ℕ
-  pub from : Shifted z slot
-  pub small : slot < 2 ^ 32
-
-pub counted : (z : ℤ) → mag z < 2 ^ 31 → Counted z
-counted (pos a) h = record { slot = a + before_zero; from = shifted_slot a; small = omega arith }
-counted (negsuc a) h =
-    record { slot = before_zero - suc a; from = record { is = rw (le-ltb before_zero (suc a) h) }; small = omega arith }
-
 -- a number of 32 bits is the one that its bits are read as
 pub read : (z : ℤ) → mag z < 2 ^ 31 → to_z w32 (of_z w32 z) ≡ z
 read z h = to_z-of_z w32 z (record { sfits = h })
-
-pub shifted_read : (z : ℤ) {n : ℕ} → mag z < 2 ^ 31 → Shifted (to_z w32 (of_z w32 z)) n → Shifted z n
-shifted_read z {n} h e = subst (λ (y : ℤ). Shifted y n) (read z h) e

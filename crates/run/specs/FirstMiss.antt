@@ -4,11 +4,10 @@ use Rattle.budget.specs.declared.task.Table.{Table}
 use Rattle.budget.specs.declared.task.Task.{Task}
 use Rattle.budget.specs.Refusal as refusal
 use Rattle.budget.specs.Task.{tasks_of}
-use Rattle.run.specs.declared.walk.Miss.{Miss}
-use Rattle.run.specs.declared.walk.Miss.TheVariants.{None, At}
 use Rattle.run.specs.Job.{Job, no_job}
 use Rattle.run.specs.Run.{MissAt}
 use Rattle.run.specs.Walk.{jobs_of, stop, walk_refusal, walk_answer}
+use Rattle.run.specs.Walked.{Miss, None, At}
 
 -- a job of task k misses at t, the trace reaches t, no job of a lower task misses then, and none misses earlier
 pub record FirstMiss (ks : List Task) (js : List Job) (s : List ℕ) (t k : ℕ) : Type 0 where

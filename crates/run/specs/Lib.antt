@@ -6,4 +6,5 @@ pub mod Order
 pub mod Run
 pub mod Service
 pub mod Walk
+pub mod Walked
 pub mod inner

@@ -6,12 +6,10 @@ use Rattle.budget.specs.declared.task.Task.{Task}
 use Rattle.budget.specs.Limits.{most_tasks}
 use Rattle.budget.specs.Refusal as refusal
 use Rattle.budget.specs.Task.{tasks_of, table_refusal}
-use Rattle.run.specs.declared.walk.Miss.{Miss}
-use Rattle.run.specs.declared.walk.Miss.TheVariants.{None, At}
-use Rattle.run.specs.declared.walk.Walked.{Walked}
 use Rattle.run.specs.Job.{Job, deadline, legal_arrival}
 use Rattle.run.specs.Order.{next}
 use Rattle.run.specs.Run.{left_at}
+use Rattle.run.specs.Walked.{Miss, None, At, Walked}
 use Rattle.trace.specs.Answer.{longest}
 use Rattle.trace.specs.Legal.{zeros_and_ones}
 

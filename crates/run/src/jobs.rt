@@ -1,180 +1,168 @@
-// What makes an arrival of jobs legal (RULES 9); the jobs are given as the lists of their tasks, releases, readiness slots and works.
-ghost use Rattle.std.specs.Prelude.{ℕ, suc, ◌+◌, ◌^◌, ◌≤◌, ◌<◌, not, ◌&&◌, ◌||◌, List, map, ◌≡◌, leb, eqb, length, get_or, drop};
+// The jobs of a run, and what makes their arrival legal (RULES 9).
+ghost use Rattle.std.specs.Prelude.{ℕ, suc, ◌+◌, ◌^◌, ◌≤◌, ◌<◌, not, ◌&&◌, ◌||◌, List, map, ◌≡◌, pos, ◌+ℤ◌, leb, eqb, length, get_or, drop};
+ghost use Rattle.std.specs.Int.Signed.{le_z, lt_z};
 ghost use Rattle.budget.specs.declared.task.Task.{Task};
-ghost use Rattle.budget.specs.Limits.{most_tasks};
-ghost use Rattle.budget.specs.Task.{T, tasks_of};
-ghost use Rattle.run.specs.inner.Columns.{Tasks, Releases, Readiness, Works};
-ghost use Rattle.run.specs.Job.{Job, task_of, deadline, valid_job, before_all, legal_arrival, no_job};
-ghost use Rattle.run.specs.inner.Scan.{due_of, follows};
+ghost use Rattle.budget.specs.Task.{T, C, J};
+ghost use Rattle.run.specs.inner.Columns.{OneLength, Timely, job_in, jobs_in};
+ghost use Rattle.run.specs.Job.{from_zero, task_of, deadline, valid_job, before_all, legal_arrival, no_job};
 ghost use Rattle.run.specs.Walk.{released_before, valid_jobs};
 
-use crate::release::{before_end, instant_after, ready_in_time, shifted};
-use budget::task::Table;
+use budget::task::Task;
 
 // The most jobs that a walk takes.
 pub const MOST: usize = 1_024;
 
-// Whether a later release of one task keeps its distance, the task's period; both are counted from the earliest slot. The sum may pass a u32, so it
-// is taken in a u64.
-fn apart(period: u32, task: u32, release: u32, later_task: u32, later_release: u32) -> bool
-    ensures { result ≡ (not (eqb task later_task) || leb (release + period) later_release) }
-{
-    if task != later_task {
-        return true;
-    }
-    release as u64 + period as u64 <= later_release as u64
+// The jobs of a run, as the columns of their tasks' numbers, their releases, their readiness slots and their works.
+#[derive(Clone, Copy)]
+pub struct Jobs<'a> {
+    pub tasks: &'a [u32],
+    pub releases: &'a [i32],
+    pub ready: &'a [u32],
+    pub works: &'a [u32],
 }
 
-// Whether a job and a later one are sorted by release and then by task, and apart.
-#[tactic(auto, unfolding(crate::specs::inner::Scan::follows))]
-fn follows(period: u32, task: u32, release: u32, later_task: u32, later_release: u32) -> bool
-    ensures { result ≡ follows period task release later_task later_release }
-{
-    if release < later_release {
-        return apart(period, task, release, later_task, later_release);
-    }
-    if later_release < release {
-        return false;
-    }
-    if later_task < task {
-        return false;
-    }
-    apart(period, task, release, later_task, later_release)
+// One job; its release may lie before slot 0.
+#[derive(Clone, Copy)]
+struct Job {
+    task: u32,
+    release: i32,
+    ready: u32,
+    work: u32,
 }
 
-// Whether job i, of a task with that period, and every job after it are in order and apart.
-fn spaced(period: u32, tasks: &[u32], releases: &[i32], i: usize) -> bool
-    requires { (length releases.now ≡ length tasks.now) × (i < length tasks.now) }
-    ensures { (ks : List Task) (js : List Job) → Tasks js tasks.now → Releases js releases.now → T (task_of ks (get_or js i no_job)) ≡ period → result ≡ before_all ks (get_or js i no_job) (drop (suc i) js) }
-{
-    let task = tasks[i];
-    let release = shifted(releases[i]);
-    let mut k = i + 1;
-    while k < tasks.len() {
-        let later = shifted(releases[k]);
-        if !follows(period, task, release, tasks[k], later) {
-            return false;
+impl Job {
+    // Whether it becomes ready in its release slot or at most `lateness` slots later.
+    fn is_ready_in_time(self, lateness: u32) -> bool
+        ensures { result ≡ (le_z self.release (pos self.ready) && le_z (pos self.ready) (self.release +ℤ pos lateness)) }
+    {
+        let release = i64::from(self.release);
+        let ready = i64::from(self.ready);
+        release <= ready && ready <= release + i64::from(lateness)
+    }
+
+    // Whether its work is 1 to the task's, and it becomes ready in time.
+    fn is_within(self, task: &Task) -> bool
+        ensures { result ≡ ((leb 1 self.work && leb self.work (C task.now)) && (le_z self.release (pos self.ready) && le_z (pos self.ready) (self.release +ℤ pos (J task.now)))) }
+    {
+        1 <= self.work && self.work <= task.work.0 && self.is_ready_in_time(task.lateness.0)
+    }
+
+    // Whether a later job is sorted behind it: by release, and those of one release by task.
+    fn is_in_order(self, later: Job) -> bool
+        ensures { result ≡ (lt_z self.release later.release || (le_z self.release later.release && leb self.task later.task)) }
+    {
+        self.release < later.release || (self.release == later.release && self.task <= later.task)
+    }
+
+    // Whether a later job of the same task keeps its distance, the task's period.
+    fn is_apart(self, later: Job, period: u32) -> bool
+        ensures { result ≡ (not (eqb self.task later.task) || le_z (self.release +ℤ pos period) later.release) }
+    {
+        self.task != later.task
+            || i64::from(self.release) + i64::from(period) <= i64::from(later.release)
+    }
+
+    // Whether it goes before a later job, the period of its task between their releases if that is of its task too.
+    fn is_before(self, later: Job, period: u32) -> bool
+        ensures { result ≡ ((lt_z self.release later.release || (le_z self.release later.release && leb self.task later.task)) && (not (eqb self.task later.task) || le_z (self.release +ℤ pos period) later.release)) }
+    {
+        self.is_in_order(later) && self.is_apart(later, period)
+    }
+
+    // Its deadline, so many slots after its release, where that lies behind slot 0.
+    fn deadline(self, slots: u32) -> u32
+        requires { (0 < from_zero (self.release +ℤ pos slots)) × (from_zero (self.release +ℤ pos slots) < 2 ^ 31) }
+        ensures { result ≡ from_zero (self.release +ℤ pos slots) }
+    {
+        (i64::from(self.release) + i64::from(slots)) as u32
+    }
+}
+
+impl Jobs<'_> {
+    // The job at place i.
+    fn at(&self, i: usize) -> Job
+        requires { OneLength self.now × (i < length self.now.tasks.now) }
+        ensures { get_or (jobs_in self.now) i no_job ≡ job_in result }
+    {
+        Job {
+            task: self.tasks[i],
+            release: self.releases[i],
+            ready: self.ready[i],
+            work: self.works[i],
         }
-        k += 1;
     }
-    true
-}
 
-// Whether job i keeps the rules: its task is there, its work is 1 to C, it is ready in time, and the jobs after it are in order and apart.
-fn legal_job(
-    table: Table,
-    tasks: &[u32],
-    releases: &[i32],
-    ready: &[u32],
-    works: &[u32],
-    i: usize,
-) -> bool
-    requires { (table.count ≤ most_tasks) × (length releases.now ≡ length tasks.now) × (length ready.now ≡ length tasks.now) × (length works.now ≡ length tasks.now) × (i < length tasks.now) }
-    ensures { (js : List Job) → Tasks js tasks.now → Releases js releases.now → Readiness js ready.now → Works js works.now → result ≡ (valid_job (tasks_of table) (get_or js i no_job) && before_all (tasks_of table) (get_or js i no_job) (drop (suc i) js)) }
-{
-    let work = works[i];
-    let place = tasks[i] as usize;
-    let count = table.count;
-    if count <= place {
-        return false;
-    }
-    if work < 1 {
-        return false;
-    }
-    let all = table.tasks;
-    let task = all[place];
-    let most = task.work.0;
-    if most < work {
-        return false;
-    }
-    if !ready_in_time(releases[i], ready[i], task.lateness.0) {
-        return false;
-    }
-    spaced(task.period.0, tasks, releases, i)
-}
-
-// Whether the jobs are a legal arrival.
-fn legal_jobs(table: Table, tasks: &[u32], releases: &[i32], ready: &[u32], works: &[u32]) -> bool
-    requires { (table.count ≤ most_tasks) × (length releases.now ≡ length tasks.now) × (length ready.now ≡ length tasks.now) × (length works.now ≡ length tasks.now) }
-    ensures { (js : List Job) → Tasks js tasks.now → Releases js releases.now → Readiness js ready.now → Works js works.now → result ≡ legal_arrival (tasks_of table) js }
-{
-    let mut i = 0;
-    while i < tasks.len() {
-        if !legal_job(table, tasks, releases, ready, works, i) {
-            return false;
+    // Whether the job at place i, of a task with that period, and every job after it are in order and apart.
+    fn is_before_rest(&self, i: usize, period: u32) -> bool
+        requires { OneLength self.now × (i < length self.now.tasks.now) }
+        ensures { (ks : List Task) → T (task_of ks (get_or (jobs_in self.now) i no_job)) ≡ period → result ≡ before_all ks (get_or (jobs_in self.now) i no_job) (drop (suc i) (jobs_in self.now)) }
+    {
+        let job = self.at(i);
+        for k in i + 1..self.tasks.len() {
+            if !job.is_before(self.at(k), period) {
+                return false;
+            }
         }
-        i += 1;
+        true
     }
-    true
-}
 
-// Whether each job is released before the trace ends.
-fn released_before(releases: &[i32], end: usize) -> bool
-    ensures { result ≡ released_before end releases.now }
-{
-    let mut i = 0;
-    while i < releases.len() {
-        if !before_end(releases[i], end) {
-            return false;
+    // Whether the job at place i keeps the rules: its task is there, its work is 1 to C, it is ready in time, and the jobs after it are in order
+    // and apart.
+    fn is_legal_at(&self, table: &[Task], i: usize) -> bool
+        requires { OneLength self.now × (i < length self.now.tasks.now) }
+        ensures { result ≡ (valid_job table.now (get_or (jobs_in self.now) i no_job) && before_all table.now (get_or (jobs_in self.now) i no_job) (drop (suc i) (jobs_in self.now))) }
+    {
+        let job = self.at(i);
+        match table.get(job.task as usize) {
+            Some(task) => job.is_within(task) && self.is_before_rest(i, task.period.0),
+            None => false,
         }
-        i += 1;
     }
-    true
-}
 
-// Whether the job lists keep the rules of the run, on a trace that ends at that instant.
-pub(crate) fn check_jobs(
-    table: Table,
-    tasks: &[u32],
-    releases: &[i32],
-    ready: &[u32],
-    works: &[u32],
-    end: usize,
-) -> bool
-    requires { table.count ≤ most_tasks }
-    ensures { result ≡ valid_jobs (tasks_of table) tasks.now releases.now ready.now works.now end }
-{
-    if releases.len() != tasks.len() {
-        return false;
+    // Whether the jobs are a legal arrival.
+    fn is_legal(&self, table: &[Task]) -> bool
+        requires { OneLength self.now }
+        ensures { result ≡ legal_arrival table.now (jobs_in self.now) }
+    {
+        for i in 0..self.tasks.len() {
+            if !self.is_legal_at(table, i) {
+                return false;
+            }
+        }
+        true
     }
-    if ready.len() != tasks.len() {
-        return false;
-    }
-    if works.len() != tasks.len() {
-        return false;
-    }
-    if MOST < tasks.len() {
-        return false;
-    }
-    if !released_before(releases, end) {
-        return false;
-    }
-    legal_jobs(table, tasks, releases, ready, works)
-}
 
-// The deadline of each job.
-pub(crate) fn deadlines(table: Table, tasks: &[u32], releases: &[i32], due: &mut [u32])
-    requires { (table.count ≤ most_tasks) × (length releases.now ≡ length tasks.now) × (length due.old ≡ length tasks.now) × ((k : ℕ) → k < length tasks.now → (get_or tasks.now k 0 < table.count) × (0 < due_of table.tasks tasks.now releases.now k) × (due_of table.tasks tasks.now releases.now k < 2 ^ 31)) }
-    ensures { (js : List Job) → Tasks js tasks.now → Releases js releases.now → due.new ≡ map (deadline (tasks_of table)) js }
-{
-    let all = table.tasks;
-    let mut i = 0;
-    while i < tasks.len() {
-        let place = tasks[i] as usize;
-        let task = all[place];
-        due[i] = instant_after(releases[i], task.deadline.0);
-        i += 1;
+    // Whether each job is released before the trace ends.
+    fn is_released_before(&self, end: usize) -> bool
+        ensures { result ≡ released_before end self.now.releases.now }
+    {
+        self.releases
+            .iter()
+            .all(|&release| release < 0 || (release as usize) < end)
     }
-}
 
-// The whole work of each job.
-pub(crate) fn whole_work(works: &[u32], left: &mut [u32])
-    requires { length left.old ≡ length works.now }
-    ensures { left.new ≡ works.now }
-{
-    let mut i = 0;
-    while i < works.len() {
-        left[i] = works[i];
-        i += 1;
+    #[tactic(auto, unfolding(crate::specs::Walk::valid_jobs))]
+    // Whether the jobs keep the rules of the run, on a trace that ends at that instant.
+    pub(crate) fn is_valid(&self, table: &[Task], end: usize) -> bool
+        ensures { result ≡ valid_jobs table.now self.now.tasks.now self.now.releases.now self.now.ready.now self.now.works.now end }
+    {
+        let count = self.tasks.len();
+        self.releases.len() == count
+            && self.ready.len() == count
+            && self.works.len() == count
+            && count <= MOST
+            && self.is_released_before(end)
+            && self.is_legal(table)
+    }
+
+    // The deadline of each job.
+    pub(crate) fn deadlines(&self, table: &[Task], due: &mut [u32])
+        requires { OneLength self.now × (length due.old ≡ length self.now.tasks.now) × ((k : ℕ) → k < length self.now.tasks.now → Timely table.now (get_or (jobs_in self.now) k no_job)) }
+        ensures { due.new ≡ map (deadline table.now) (jobs_in self.now) }
+    {
+        for (i, due) in due.iter_mut().enumerate() {
+            let job = self.at(i);
+            *due = job.deadline(table[job.task as usize].deadline.0);
+        }
     }
 }

@@ -1,7 +1,6 @@
 // The run: a step-by-step walk over a trace with jobs.
 #![tactic(auto)]
 
-mod jobs;
-mod release;
+pub mod jobs;
 mod scan;
 pub mod walk;

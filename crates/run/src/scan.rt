@@ -1,121 +1,114 @@
-// One slot of the run: which job is served, and which is late. The jobs are columns of numbers: deadlines, tasks, readiness slots, work left.
-ghost use Rattle.std.specs.Prelude.{◌+◌, ◌≤◌, ◌<◌, cond, ◌&&◌, List, ◌≡◌, ltb, eqb, length, get_or};
+// One slot of the run: which job is served, and which is late.
+ghost use Rattle.std.specs.Prelude.{ℕ, ◌+◌, ◌≤◌, ◌<◌, cond, ◌&&◌, ◌||◌, List, ◌≡◌, IfSome, unwrap_or, ltb, eqb, length, get_or};
 ghost use Rattle.budget.specs.declared.task.Task.{Task};
-ghost use Rattle.run.specs.inner.Columns.{Deadlines, Tasks, Readiness};
-ghost use Rattle.run.specs.Job.{Job};
+ghost use Rattle.budget.specs.Limits.{most_tasks};
+ghost use Rattle.run.specs.inner.Columns.{Deadlines, OneLength, jobs_in};
+ghost use Rattle.run.specs.inner.Scan.{Slotted, idle_of, served_of, takes_over, goes_at};
 ghost use Rattle.run.specs.Order.{next};
-ghost use Rattle.run.specs.inner.Scan.{Slotted, takes_over};
 ghost use Rattle.run.specs.Walk.{late_task};
 
-// Numbers no task: the numbers of tasks are below the most that a table has.
-pub const NO_TASK: u32 = 64;
+use crate::jobs::Jobs;
 
-// Of job i and the first of those behind it, the one to serve in slot n; the count of jobs stands for none.
-fn first_of(
-    due: &[u32],
-    tasks: &[u32],
-    ready: &[u32],
-    left: &[u32],
-    n: u32,
-    i: usize,
-    first: usize,
-) -> usize
-    requires { (length due.now ≡ length left.now) × (length tasks.now ≡ length left.now) × (length ready.now ≡ length left.now) × (i < length left.now) }
-    ensures { result ≡ cond (takes_over due.now tasks.now ready.now left.now n i first) i first }
-{
-    if n < ready[i] {
-        return first;
-    }
-    if left[i] == 0 {
-        return first;
-    }
-    if left.len() <= first {
-        return i;
-    }
-    if due[first] < due[i] {
-        return first;
-    }
-    if due[first] != due[i] {
-        return i;
-    }
-    if tasks[first] < tasks[i] {
-        return first;
-    }
-    i
+// What one slot gives: nothing, a unit served, or a unit idle.
+#[derive(Clone, Copy, PartialEq, Eq)]
+pub(crate) enum Given {
+    Nothing,
+    Served,
+    Idle,
 }
 
-// The place of the job that a supplied slot n serves, or the count of jobs where none waits.
-fn choose(due: &[u32], tasks: &[u32], ready: &[u32], left: &[u32], n: u32) -> usize
-    requires { (length due.now ≡ length left.now) × (length tasks.now ≡ length left.now) × (length ready.now ≡ length left.now) }
-    ensures value { (ks : List Task) (js : List Job) → Deadlines ks js due.now → Tasks js tasks.now → Readiness js ready.now → result ≡ next ks n js left.now }
-    ensures waiting { result < length left.now → 0 < get_or left.now result 0 }
-{
-    let mut first = left.len();
-    let mut i = left.len();
-    while 0 < i {
-        i -= 1;
-        first = first_of(due, tasks, ready, left, n, i, first);
-    }
-    first
-}
-
-// Of a job and the lowest task number among the late ones behind it, the lowest task number that is late at t.
-fn lower_late(due: u32, task: u32, left: u32, t: u32, lowest: u32) -> u32
-    ensures { result ≡ cond ((eqb due t && ltb 0 left) && ltb task lowest) task lowest }
-{
-    if due != t {
-        return lowest;
-    }
-    if left == 0 {
-        return lowest;
-    }
-    if task < lowest {
-        return task;
-    }
-    lowest
-}
-
-// The lowest task number of the jobs late at instant t; NO_TASK where none is late.
-pub(crate) fn late_task(due: &[u32], tasks: &[u32], left: &[u32], t: u32) -> u32
-    requires { (length due.now ≡ length left.now) × (length tasks.now ≡ length left.now) }
-    ensures { (ks : List Task) (js : List Job) → Deadlines ks js due.now → Tasks js tasks.now → result ≡ late_task ks t js left.now }
-{
-    let mut lowest = NO_TASK;
-    let mut i = left.len();
-    while 0 < i {
-        i -= 1;
-        lowest = lower_late(due[i], tasks[i], left[i], t, lowest);
-    }
-    lowest
-}
-
-// What one slot gives: a unit served, a unit idle, or nothing.
+// The jobs of a run with the deadline of each; a table has a task for each number.
 #[derive(Clone, Copy)]
-pub struct Given {
-    pub served: u32,
-    pub idle: u32,
+pub(crate) struct Timed<'a> {
+    pub jobs: Jobs<'a>,
+    pub due: &'a [u32],
+    ghost even: { OneLength jobs },
+    ghost long: { length due.now ≡ length jobs.tasks.now },
+    ghost numbered: { (k : ℕ) → k < length jobs.tasks.now → get_or jobs.tasks.now k 0 < most_tasks },
 }
 
-// Slot n with its trace byte: the work left after it, and what it gave.
-pub(crate) fn serve_slot(
-    due: &[u32],
-    tasks: &[u32],
-    ready: &[u32],
-    byte: u8,
-    n: u32,
-    left: &mut [u32],
-) -> Given
-    requires { (length due.now ≡ length left.old) × (length tasks.now ≡ length left.old) × (length ready.now ≡ length left.old) }
-    ensures slotted { (ks : List Task) (js : List Job) → Deadlines ks js due.now → Tasks js tasks.now → Readiness js ready.now → Slotted ks js n byte left.old left.new result.served result.idle }
-    ensures single { result.served + result.idle ≤ 1 }
-{
-    if byte == 0 {
-        return Given { served: 0, idle: 0 };
+impl Timed<'_> {
+    // Whether the job at place p goes before the one at place q: by an earlier deadline, or at the same one by a lower task.
+    fn goes_before(&self, p: usize, q: usize) -> bool
+        requires { (p < length self.now.due.now) × (q < length self.now.due.now) }
+        ensures { result ≡ goes_at self.now.due.now self.now.jobs.tasks.now p q }
+    {
+        self.due[p] < self.due[q]
+            || (self.due[p] == self.due[q] && self.jobs.tasks[p] < self.jobs.tasks[q])
     }
-    let at = choose(due, tasks, ready, left, n);
-    if left.len() <= at {
-        return Given { served: 0, idle: 1 };
+
+    // Whether the job at place i is to be served in slot n rather than the first of those behind it.
+    fn takes_over(&self, left: &[u32], n: u32, i: usize, first: Option<usize>) -> bool
+        requires { (length left.now ≡ length self.now.due.now) × (i < length left.now) × IfSome first (λ p. p < length left.now) }
+        ensures { result ≡ takes_over self.now.due.now self.now.jobs.tasks.now self.now.jobs.ready.now left.now n i (unwrap_or first (length left.now)) }
+    {
+        if n < self.jobs.ready[i] || left[i] == 0 {
+            return false;
+        }
+        match first {
+            Some(first) => !self.goes_before(first, i),
+            None => true,
+        }
     }
-    left[at] = left[at] - 1;
-    Given { served: 1, idle: 0 }
+
+    // The place of the job that a supplied slot n serves.
+    fn choose(&self, left: &[u32], n: u32) -> Option<usize>
+        requires { length left.now ≡ length self.now.due.now }
+        ensures value { (ks : List Task) → Deadlines ks (jobs_in self.now.jobs) self.now.due.now → unwrap_or result (length left.now) ≡ next ks n (jobs_in self.now.jobs) left.now }
+        ensures waiting { IfSome result (λ p. (p < length left.now) × (0 < get_or left.now p 0)) }
+    {
+        let mut first = None;
+        for i in (0..left.len()).rev() {
+            if self.takes_over(left, n, i, first) {
+                first = Some(i);
+            }
+        }
+        first
+    }
+
+    // Whether the job at place i is late at instant t, and of a lower task than the lowest late one behind it.
+    fn is_lower_late(&self, left: &[u32], t: u32, i: usize, lowest: Option<u32>) -> bool
+        requires { (length left.now ≡ length self.now.due.now) × (i < length left.now) }
+        ensures { result ≡ ((eqb (get_or self.now.due.now i 0) t && ltb 0 (get_or left.now i 0)) && ltb (get_or self.now.jobs.tasks.now i 0) (unwrap_or lowest most_tasks)) }
+    {
+        if self.due[i] != t || left[i] == 0 {
+            return false;
+        }
+        match lowest {
+            Some(lowest) => self.jobs.tasks[i] < lowest,
+            None => true,
+        }
+    }
+
+    // The lowest task number of the jobs late at instant t.
+    pub(crate) fn late_task(&self, left: &[u32], t: u32) -> Option<u32>
+        requires { length left.now ≡ length self.now.due.now }
+        ensures value { (ks : List Task) → Deadlines ks (jobs_in self.now.jobs) self.now.due.now → unwrap_or result most_tasks ≡ late_task ks t (jobs_in self.now.jobs) left.now }
+        ensures numbered { IfSome result (λ k. k < most_tasks) }
+    {
+        let mut lowest = None;
+        for i in (0..left.len()).rev() {
+            if self.is_lower_late(left, t, i, lowest) {
+                lowest = Some(self.jobs.tasks[i]);
+            }
+        }
+        lowest
+    }
+
+    // Slot n with its trace byte: the work left after it, and what it gave.
+    pub(crate) fn serve(&self, byte: u8, n: u32, left: &mut [u32]) -> Given
+        requires { length left.old ≡ length self.now.due.now }
+        ensures { (ks : List Task) → Deadlines ks (jobs_in self.now.jobs) self.now.due.now → Slotted ks (jobs_in self.now.jobs) n byte left.old left.new (served_of result) (idle_of result) }
+    {
+        if byte == 0 {
+            return Given::Nothing;
+        }
+        match self.choose(left, n) {
+            Some(place) => {
+                left[place] -= 1;
+                Given::Served
+            }
+            None => Given::Idle,
+        }
+    }
 }

@@ -1,175 +1,111 @@
 // The walk (RULES 9): a run of jobs on a trace, slot by slot, as far as the first miss or the end of the trace.
-ghost use Rattle.std.specs.Prelude.{◌≤◌, List, ◌≡◌, length};
+ghost use Rattle.std.specs.Prelude.{◌≤◌, List, ◌≡◌, Ok, length};
 ghost use Rattle.budget.specs.declared.task.Task.{Task};
-ghost use Rattle.run.specs.inner.Columns.{Deadlines, Tasks, Readiness, Works};
-ghost use Rattle.run.specs.Job.{Job};
+ghost use Rattle.budget.specs.Refusal.{none, number_in};
+ghost use Rattle.run.specs.inner.Columns.{Deadlines, Works, jobs_in};
 ghost use Rattle.run.specs.Run.{left_at};
-ghost use Rattle.run.specs.Walk.{miss_of, stop, walked_to, walk_refusal, walk_answer, left_after};
+ghost use Rattle.run.specs.Walk.{late_task, miss_of, stop, walked_to, walk_refusal, walk_answer, left_after};
+ghost use Rattle.run.specs.Walked.{miss_in, walked_in};
 
-use crate::jobs::{MOST, check_jobs, deadlines, whole_work};
-use crate::scan::{NO_TASK, late_task, serve_slot};
+use crate::jobs::{Jobs, MOST};
+use crate::scan::{Given, Timed};
 use budget::quantity::{Time, Units};
-use budget::refusal;
+use budget::refusal::Refusal;
 use budget::task::{Table, check_table};
 use trace::legal::{LONGEST, zeros_and_ones};
 
-// The first miss: its instant and its task's number, or none.
-#[derive(Clone, Copy)]
-pub enum Miss {
-    None,
-    At(Time, u32),
+// The first miss: its instant and its task's number.
+#[derive(Clone, Copy, PartialEq, Eq)]
+pub struct Miss {
+    pub at: Time,
+    pub task: u32,
 }
 
-// What the walk answers; refused: no miss, nothing served, nothing idle.
-#[derive(Clone, Copy)]
+// What the walk answers.
+#[derive(Clone, Copy, PartialEq, Eq)]
 pub struct Walked {
-    pub refusal: u16,
-    pub miss: Miss,
+    pub miss: Option<Miss>,
     pub served: Units,
     pub idle: Units,
 }
 
-// The miss at instant t, by the lowest late task; NO_TASK stands for none.
+// The miss at instant t, by the lowest late task.
 #[tactic(auto, unfolding(crate::specs::Walk::miss_of))]
-fn miss_of(t: u32, late: u32) -> Miss
-    ensures { result ≡ miss_of t late }
+fn miss_at(timed: &Timed, left: &[u32], t: u32) -> Option<Miss>
+    requires { length left.now ≡ length timed.now.due.now }
+    ensures { (ks : List Task) → Deadlines ks (jobs_in timed.now.jobs) timed.now.due.now → miss_in result ≡ miss_of t (late_task ks t (jobs_in timed.now.jobs) left.now) }
 {
-    if late < NO_TASK {
-        return Miss::At(Time(t), late);
-    }
-    Miss::None
+    timed
+        .late_task(left, t)
+        .map(|task| Miss { at: Time(t), task })
 }
 
 // The walk over the slots. The work left is each job's whole work at first, and its work left at the stop at last.
-fn walk_slots(due: &[u32], tasks: &[u32], ready: &[u32], trace: &[u8], left: &mut [u32]) -> Walked
-    requires { (length due.now ≡ length left.old) × (length tasks.now ≡ length left.old) × (length ready.now ≡ length left.old) × (length trace.now ≤ 65536) }
-    ensures { (ks : List Task) (js : List Job) → Deadlines ks js due.now → Tasks js tasks.now → Readiness js ready.now → Works js left.old → (result ≡ walked_to ks js trace.now (stop ks js trace.now)) × (left.new ≡ left_at ks js trace.now (stop ks js trace.now)) }
+fn walk_slots(timed: &Timed, trace: &[u8], left: &mut [u32]) -> Walked
+    requires { (length left.old ≡ length timed.now.due.now) × (length trace.now ≤ 65536) }
+    ensures { (ks : List Task) → let js = jobs_in timed.now.jobs in Deadlines ks js timed.now.due.now → Works js left.old → (walked_in (Ok result) ≡ walked_to ks js trace.now (stop ks js trace.now)) × (left.new ≡ left_at ks js trace.now (stop ks js trace.now)) }
 {
-    let mut t = 0;
     let mut served = 0;
     let mut idle = 0;
-    while t < trace.len() {
-        let instant = t as u32;
-        if late_task(due, tasks, left, instant) < NO_TASK {
-            break;
+    for (t, &byte) in trace.iter().enumerate() {
+        let miss = miss_at(timed, left, t as u32);
+        if miss.is_some() {
+            return Walked {
+                miss,
+                served: Units(served),
+                idle: Units(idle),
+            };
         }
-        let given = serve_slot(due, tasks, ready, trace[t], instant, left);
-        served += given.served;
-        idle += given.idle;
-        t += 1;
+        match timed.serve(byte, t as u32, left) {
+            Given::Nothing => {}
+            Given::Served => served += 1,
+            Given::Idle => idle += 1,
+        }
     }
-    let instant = t as u32;
-    let late = late_task(due, tasks, left, instant);
-    let miss = miss_of(instant, late);
     Walked {
-        refusal: refusal::NONE,
-        miss,
+        miss: miss_at(timed, left, trace.len() as u32),
         served: Units(served),
         idle: Units(idle),
     }
 }
 
-// The walk of what is accepted, with room for the jobs' deadlines: each deadline once, the whole work as the work left, then slot by slot.
-fn walk_jobs(
-    table: Table,
-    tasks: &[u32],
-    releases: &[i32],
-    ready: &[u32],
-    works: &[u32],
-    trace: &[u8],
-    due: &mut [u32],
-    left: &mut [u32],
-) -> Walked
-    requires { (walk_refusal table tasks.now releases.now ready.now works.now trace.now (length left.old) ≡ 0) × (length due.old ≡ length tasks.now) }
-    ensures value { result ≡ walk_answer table tasks.now releases.now ready.now works.now trace.now (length left.old) }
-    ensures leaves { left.new ≡ left_after table tasks.now releases.now ready.now works.now trace.now left.old }
+// The walk of what is accepted: each deadline once, the whole work as the work left, then slot by slot.
+fn walk_accepted(table: Table, jobs: &Jobs, trace: &[u8], left: &mut [u32]) -> Walked
+    requires { walk_refusal table jobs.now.tasks.now jobs.now.releases.now jobs.now.ready.now jobs.now.works.now trace.now (length left.old) ≡ none }
+    ensures value { walked_in (Ok result) ≡ walk_answer table jobs.now.tasks.now jobs.now.releases.now jobs.now.ready.now jobs.now.works.now trace.now (length left.old) }
+    ensures leaves { left.new ≡ left_after table jobs.now.tasks.now jobs.now.releases.now jobs.now.ready.now jobs.now.works.now trace.now left.old }
 {
-    deadlines(table, tasks, releases, due);
-    whole_work(works, left);
-    walk_slots(due, tasks, ready, trace, left)
-}
-
-// The walk of what is accepted.
-fn walk_accepted(
-    table: Table,
-    tasks: &[u32],
-    releases: &[i32],
-    ready: &[u32],
-    works: &[u32],
-    trace: &[u8],
-    left: &mut [u32],
-) -> Walked
-    requires { walk_refusal table tasks.now releases.now ready.now works.now trace.now (length left.old) ≡ 0 }
-    ensures value { result ≡ walk_answer table tasks.now releases.now ready.now works.now trace.now (length left.old) }
-    ensures leaves { left.new ≡ left_after table tasks.now releases.now ready.now works.now trace.now left.old }
-{
-    let mut due = [0u32; MOST];
-    let count = tasks.len();
-    walk_jobs(
-        table,
-        tasks,
-        releases,
-        ready,
-        works,
-        trace,
-        &mut due[..count],
-        left,
-    )
+    let mut room = [0u32; MOST];
+    let due = &mut room[..jobs.tasks.len()];
+    jobs.deadlines(table.tasks(), due);
+    left.copy_from_slice(jobs.works);
+    walk_slots(&Timed { jobs: *jobs, due }, trace, left)
 }
 
 // The refusal of a walk: the table's, then that of the jobs, of the trace, and of the room for the work left.
-fn check_walk(
-    table: Table,
-    tasks: &[u32],
-    releases: &[i32],
-    ready: &[u32],
-    works: &[u32],
-    trace: &[u8],
-    room: usize,
-) -> u16
-    ensures { result ≡ walk_refusal table tasks.now releases.now ready.now works.now trace.now room }
+#[tactic(auto, unfolding(crate::specs::Walk::walk_refusal, crate::specs::Walk::valid_trace))]
+fn check_walk(table: Table, jobs: &Jobs, trace: &[u8], room: usize) -> Result<(), Refusal>
+    ensures { number_in result ≡ walk_refusal table jobs.now.tasks.now jobs.now.releases.now jobs.now.ready.now jobs.now.works.now trace.now room }
 {
-    let refused = check_table(table);
-    if refused != refusal::NONE {
-        return refused;
+    check_table(table)?;
+    if !jobs.is_valid(table.tasks(), trace.len()) {
+        return Err(Refusal::Jobs);
     }
-    if !check_jobs(table, tasks, releases, ready, works, trace.len()) {
-        return refusal::JOBS;
+    if LONGEST < trace.len() || !zeros_and_ones(trace) {
+        return Err(Refusal::Trace);
     }
-    if LONGEST < trace.len() {
-        return refusal::TRACE;
+    if room != jobs.tasks.len() {
+        return Err(Refusal::Room);
     }
-    if !zeros_and_ones(trace) {
-        return refusal::TRACE;
-    }
-    if room != tasks.len() {
-        return refusal::ROOM;
-    }
-    refusal::NONE
+    Ok(())
 }
 
 // The walk of a task table, jobs and a trace: the first miss, the units served and idle up to the stop, and each job's work left there.
 #[tactic(auto, unfolding(crate::specs::Walk::walk_answer, crate::specs::Walk::left_after, crate::specs::Walk::refused_walk))]
-pub fn walk(
-    table: Table,
-    tasks: &[u32],
-    releases: &[i32],
-    ready: &[u32],
-    works: &[u32],
-    trace: &[u8],
-    left: &mut [u32],
-) -> Walked
-    ensures value { result ≡ walk_answer table tasks.now releases.now ready.now works.now trace.now (length left.old) }
-    ensures leaves { left.new ≡ left_after table tasks.now releases.now ready.now works.now trace.now left.old }
+pub fn walk(table: Table, jobs: Jobs, trace: &[u8], left: &mut [u32]) -> Result<Walked, Refusal>
+    ensures value { walked_in result ≡ walk_answer table jobs.entry.tasks.now jobs.entry.releases.now jobs.entry.ready.now jobs.entry.works.now trace.now (length left.old) }
+    ensures leaves { left.new ≡ left_after table jobs.entry.tasks.now jobs.entry.releases.now jobs.entry.ready.now jobs.entry.works.now trace.now left.old }
 {
-    let refused = check_walk(table, tasks, releases, ready, works, trace, left.len());
-    if refused != refusal::NONE {
-        return Walked {
-            refusal: refused,
-            miss: Miss::None,
-            served: Units(0),
-            idle: Units(0),
-        };
-    }
-    walk_accepted(table, tasks, releases, ready, works, trace, left)
+    check_walk(table, &jobs, trace, left.len())?;
+    Ok(walk_accepted(table, &jobs, trace, left))
 }

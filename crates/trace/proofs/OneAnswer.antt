@@ -5,8 +5,7 @@ use mathlib.Core.List.{List}
 use mathlib.Core.Logic.{◌↔◌}
 use mathlib.Core.Path.{◌≡◌, refl, sym, ◌∙◌}
 use Rattle.budget.specs.declared.interface.Interface.{Interface}
-use Rattle.trace.specs.declared.legal.Legality.{Legality}
-use Rattle.trace.specs.Answer.{Answered}
+use Rattle.trace.specs.Answer.{Legality, Answered}
 
 one_truth : (a b : Bool) {P : Type 0} → (a ≡ true) ↔ P → (b ≡ true) ↔ P → a ≡ b
 one_truth true b p q = sym (q.1 (p.0 refl))

@@ -2,7 +2,7 @@
 -- legal exactly if no period has more than Δ − Θ of them. A period that has too many has them by the slot where the walk stops.
 use Prim.Native.Nat.{ℕ, zero, suc, ◌+◌, ◌-◌, ◌*◌, ◌≤◌, ◌<◌}
 use mathlib.Core.Path.{◌≡◌, refl, sym, ap, ◌∙◌}
-use mathlib.Core.Bool.{Bool, true, false, cond, false≢true}
+use mathlib.Core.Bool.{Bool, true, false, cond, ◌&&◌, false≢true}
 use mathlib.Core.List.{List, [], ◌∷◌}
 use mathlib.Core.Logic.{◌↔◌}
 use lib.ListN.{get_or}
@@ -23,7 +23,7 @@ use Rattle.trace.proofs.Units.{units_same, units_none, units_both}
 
 -- what the period lacks after the slot at this place
 abbrev pub lacks : ℕ → ℕ → ℕ → ℕ → ℕ
-lacks deadline place missing byte = cond (ltb place deadline) (cond (eqb byte 0) (missing + 1) missing) missing
+lacks deadline place missing byte = cond (ltb place deadline && eqb byte 0) (missing + 1) missing
 
 -- the place of the next slot, and what its period lacks before it
 abbrev pub next : ℕ → ℕ → ℕ
@@ -55,7 +55,7 @@ lacks_more : (p d : ℕ) (f : ℕ → ℕ) (k m l b : ℕ) → f (k * p + m) ≡
 unfolding lack
 lacks_more p d f k m l b e = rw e (go (ltb m d) (ℕ_discrete b 0))
   where
-    go : (t : Bool) → Dec (b ≡ 0) → cond t (cond (eqb b 0) (l + 1) l) l ≡ l + cond t (1 - b) 0
+    go : (t : Bool) → Dec (b ≡ 0) → cond (t && eqb b 0) (l + 1) l ≡ l + cond t (1 - b) 0
     go true (yes z) = rw z (omega arith)
     go true (no z) = rw (ne_eqb b 0 z) (omega arith)
     go false z = omega arith

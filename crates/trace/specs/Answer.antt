@@ -1,9 +1,9 @@
 -- The trace question: what it refuses, and what its answer says (RULES 5, 13).
-use Rattle.std.specs.Prelude.{ℕ, true, cond, List, ◌↔◌, ◌≡◌, length, leb, ltb, eqb}
+use Rattle.std.specs.Prelude.{ℕ, Bool, true, false, cond, List, Result, Ok, Err, ◌↔◌, ◌≡◌, length, leb, ltb, eqb}
 use Rattle.budget.specs.declared.interface.Interface.{Interface}
 use Rattle.budget.specs.Interface.{Π, interface_refusal}
+use Rattle.budget.specs.declared.refusal.Refusal.{Refusal}
 use Rattle.budget.specs.Refusal as refusal
-use Rattle.trace.specs.declared.legal.Legality.{Legality}
 use Rattle.trace.specs.Legal.{zeros_and_ones, Legal}
 
 -- the most slots of a trace that is taken
@@ -20,6 +20,16 @@ trace_refusal i o s =
     refusal.bad_trace)
     refusal.range)
     (interface_refusal i)
+
+-- the answer in the paper's numbers: its refusal or 0, and yes or no
+pub record Legality : Type 0 where
+  pub refusal : ℕ
+  pub legal : Bool
+
+-- an answer of the code in those numbers: what is refused is not legal
+abbrev pub legality_in : Result Bool Refusal → Legality
+legality_in (Ok legal) = record { refusal = refusal.none; legal = legal }
+legality_in (Err r) = record { refusal = refusal.number_of r; legal = false }
 
 -- the answer has that refusal, and it is yes exactly if nothing is refused and the trace is legal
 pub record Answered (i : Interface) (o : ℕ) (s : List ℕ) (r : Legality) : Type 0 where

@@ -6,11 +6,8 @@ use native.Mathlib.Omega.{arith}
 use lib.ListN.{length, take, drop, set, replicate, length-append}
 use lib.Seq.{append_snoc, set_at}
 use Rattle.record.specs.declared.layout.Pair.{Pair}
-use Rattle.record.specs.declared.layout.Record as code
-use Rattle.record.specs.declared.layout.Record.TheVariants as variant
-use Rattle.record.specs.Record.{said}
 use Rattle.record.specs.Record.{Record}
-use Rattle.record.specs.Record.{ComponentRecord, TaskRecord, PairRecord, EndRecord, NoRecord}
+use Rattle.record.specs.Record.{PairRecord}
 use Rattle.record.specs.Layout.{size_of, record_of}
 use Rattle.transfer.specs.declared.pair.Pairs.{Pairs}
 use Rattle.transfer.specs.Pairing.{no_pair, pair_then, pairs_in, pair_table}
@@ -29,25 +26,6 @@ row_more ps p h =
     ∙ (sym (append_snoc ps p zeros)
     ∙ sym (ap (λ (n : ℕ). (ps ++ (p ∷ [])) ++ replicate (256 - n) no_pair) (length-append ps (p ∷ [])))))
 
--- a record that is no pair ends them
-none_then : (r : Record) → ((p : Pair) → r ≡ PairRecord p → ⊥) → (ps : List Pair) → pair_then r ps ≡ []
-unfolding pair_then
-none_then (PairRecord p) h ps = absurd (h p refl)
-none_then (ComponentRecord c) h ps = refl
-none_then (TaskRecord stated k) h ps = refl
-none_then (EndRecord count) h ps = refl
-none_then (NoRecord n) h ps = refl
-
--- and so is a record of the code
-pub no_pair_said : (r : code.Record) → ((p : Pair) → r ≡ variant.Pair p → ⊥) → (p : Pair) → said r ≡ PairRecord p → ⊥
-no_pair_said (variant.Pair q) h p e = h q refl
-no_pair_said (variant.Component c) h p e = cc
-no_pair_said (variant.Task stated k) h p e = cc
-no_pair_said (variant.End count) h p e = cc
-
-pub no_pair_none : (n : ℕ) (p : Pair) → NoRecord n ≡ PairRecord p → ⊥
-no_pair_none n p e = cc
-
 pub record PairTaking (rest : List ℕ) (pairs : List Pair) (count place : ℕ) : Type 0 where
   pub ps : List Pair
   pub held : pairs ≡ row ps
@@ -57,9 +35,6 @@ pub record PairTaking (rest : List ℕ) (pairs : List Pair) (count place : ℕ) 
   pub few : count ≤ 256
 
 module _ (rest : List ℕ) where
-  pub taking_none : (pairs : List Pair) → pairs ≡ replicate 256 no_pair → PairTaking rest pairs 0 0
-  taking_none pairs e = record { ps = []; held = e; counted = refl; todo = refl; here = omega arith; few = omega arith }
-
   module _ (pairs : List Pair) (count place : ℕ) (w : PairTaking rest pairs count place) where
     -- a pair record is read there, with this size
     pub taking_more : (r : Record) (p : Pair) (size : ℕ) → r ≡ record_of (take (length rest - place) (drop place rest)) → r ≡ PairRecord p → size ≡ size_of (PairRecord p) → count < 256
@@ -91,12 +66,12 @@ module _ (rest : List ℕ) where
         let all : w.ps ≡ pairs_in 256 rest = sym (append-nil w.ps) ∙ (ap (λ (l : List Pair). w.ps ++ l) (sym e) ∙ w.todo) in
         rw (← all, w.held, w.counted)
 
-    pub taken_short : count < 256 → (r : Record) → r ≡ record_of (take (length rest - place) (drop place rest)) → ((p : Pair) → r ≡ PairRecord p → ⊥)
+    pub taken_short : count < 256 → (r : Record) → r ≡ record_of (take (length rest - place) (drop place rest)) → ((ps : List Pair) → pair_then r ps ≡ [])
         → ◌≡◌ {A = Pairs} (record { count = count; pairs = pairs }) (pair_table (pairs_in 256 rest))
     unfolding pairs_in
-    taken_short h r e other =
+    taken_short h r e o =
         let n : 256 - count ≡ suc (256 - (count + 1)) = omega arith in
-        ended (rw (n, read_here rest place r e) (none_then r other _))
+        ended (rw (n, read_here rest place r e) (o _))
 
     pub taken_all : 256 ≤ count → ◌≡◌ {A = Pairs} (record { count = 256; pairs = pairs }) (pair_table (pairs_in 256 rest))
     unfolding pairs_in

@@ -1,8 +1,9 @@
 // Pairs between a sheet and the program (RULES 10, 11): reading one by its place among the pairs, or all of them, and writing one.
-ghost use Rattle.std.specs.Prelude.{◌≡◌, length, take};
-ghost use Rattle.record.specs.Layout.{pair_bytes};
+ghost use Rattle.std.specs.Prelude.{◌≡◌, List, [], MatchOption, length, take};
+ghost use Rattle.record.specs.Layout.{pair_bytes, record_of};
+ghost use Rattle.record.specs.Record.{PairRecord};
 ghost use Rattle.record.specs.Writing.{written, written_in, buffered};
-ghost use Rattle.transfer.specs.Pairing.{pair_table, pairs_in, pair_reading, pair_reading_in, pair_writing_refusal};
+ghost use Rattle.transfer.specs.Pairing.{pair_table, pair_then, pairs_in, pair_reading, pair_reading_in, pair_writing_refusal};
 
 use budget::refusal::Refusal;
 pub use record::layout::Pair;
@@ -12,7 +13,8 @@ use sheet::check::MOST_COMPONENTS;
 use sheet::contents::contents_of;
 use sheet::fault::Fault;
 
-// The pairs of a sheet, the first `count`; the places behind them are zero. The count stands beside the places because memory is fixed.
+// The pairs of a sheet, the first `count`; the places behind them are zero. The count stands beside the places because memory is fixed, and the kit's
+// ArrayVec is made with an allocator.
 #[derive(Clone, Copy)]
 pub struct Pairs {
     pub count: usize,
@@ -29,6 +31,17 @@ impl Pairs {
     }
 }
 
+// The pair of the pair record at the front of some bytes.
+#[tactic(auto, unfolding(crate::specs::Pairing::pair_then))]
+fn pair_of(rest: &[u8]) -> Option<Pair>
+    ensures { MatchOption result ((ps : List Pair) → pair_then (record_of rest.now) ps ≡ []) (λ p. PairRecord p ≡ record_of rest.now) }
+{
+    match record_of(rest) {
+        Ok(Record::Pair(pair)) => Some(pair),
+        _ => None,
+    }
+}
+
 // Reads the pair records at the front of some bytes, for those behind the last component of a sheet.
 pub fn read_pairs(rest: &[u8]) -> Pairs
     ensures { result ≡ pair_table (pairs_in 256 rest.now) }
@@ -39,14 +52,11 @@ pub fn read_pairs(rest: &[u8]) -> Pairs
     }; 256];
     let mut place = 0;
     for count in 0..MOST_COMPONENTS {
-        let Ok(record) = record_of(&rest[place..]) else {
-            return Pairs { count, pairs };
-        };
-        let Record::Pair(pair) = record else {
+        let Some(pair) = pair_of(&rest[place..]) else {
             return Pairs { count, pairs };
         };
         pairs[count] = pair;
-        place += size_of(record);
+        place += size_of(Record::Pair(pair));
     }
     Pairs {
         count: MOST_COMPONENTS,

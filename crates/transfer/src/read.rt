@@ -34,7 +34,7 @@ fn read_tasks(part: &[u8], start: usize) -> Table
     table
 }
 
-// The component of a record and a table. No record holds its common period: that is worked out here, once.
+// The component of a record and a table. No record holds its common period: that is worked out here, once. (No `From`: its types are of crates below.)
 fn with_head(head: Head, table: Table) -> Component
     ensures { result ≡ record { number = head.number; period = head.period; capacity = head.capacity; deadline = head.deadline; common = common_of head.period.0 (tasks_of table); table = table } }
 {
@@ -57,16 +57,17 @@ fn with_head(head: Head, table: Table) -> Component
 
 // Reads the component of a part: its record, then the task records behind it. A part that does not begin with a component record
 // is read as the component of a refused reading.
+#[tactic(auto, unfolding(crate::specs::Reading::component_from, crate::specs::Reading::with_head))]
 pub fn read_part(part: &[u8]) -> Component
     ensures { result ≡ component_from part.now (record_of part.now) }
 {
-    let Ok(record) = record_of(part) else {
-        return refused();
-    };
-    let Record::Component(head) = record else {
-        return refused();
-    };
-    with_head(head, read_tasks(part, size_of(record)))
+    match record_of(part) {
+        Ok(Record::Component(head)) => {
+            let size = size_of(Record::Component(head));
+            with_head(head, read_tasks(part, size))
+        }
+        _ => refused(),
+    }
 }
 
 // Reads the component at a place of a sheet: the sheet's refusal, then 15 where none stands there.
@@ -82,11 +83,11 @@ pub fn part_at<'a>(sheet: &'a [u8], edges: &[usize; 257], place: usize) -> &'a [
     ensures { result.now ≡ part_at sheet.now edges.now place }
 {
     if MOST_COMPONENTS <= place {
-        return &sheet[..0];
+        return &[];
     }
     let from = edges[place];
     let to = edges[place + 1];
-    sheet.get(from..to).unwrap_or(&sheet[..0])
+    sheet.get(from..to).unwrap_or(&[])
 }
 
 // Reads the component at a place of a sheet whose edges are known.

@@ -15,6 +15,7 @@ use record::layout::{Head, Record};
 use record::write::{check_room, size_of, write_record};
 use sheet::check::MOST_COMPONENTS;
 
+// What a component's record says. (No `From`: its types are of crates below.)
 fn head_of(component: Component) -> Head
     ensures { result ≡ record { number = component.number; period = component.period; capacity = component.capacity; deadline = component.deadline } }
 {

@@ -60,8 +60,8 @@ overflow_sub-slack c =
     let v = (taken _ _ _ c.requires).valid in
     omega (arith, v.fits, v.within)
 
-pub loop-i-init : goal.loop-i-init
-loop-i-init c = (zero-le, (taken _ _ _ c.requires).below, zero-le, refl)
+pub loop-byte-init : goal.loop-byte-init
+loop-byte-init c = ((taken _ _ _ c.requires).below, zero-le, refl)
 
 pub lacking-lacks-requires : goal.lacking-lacks-requires
 lacking-lacks-requires c =
@@ -70,22 +70,20 @@ lacking-lacks-requires c =
 
 pub returns-then-slack-lacks : goal.returns-then-slack-lacks
 returns-then-slack-lacks c =
-    let l = c.loop-i in
     answers _ _ _ c.requires false
-    (sym (stop _ _ _ _ _ _ _ _ c.loop-i-test.true c.lacking-lacks.ensures c.if-slack-lacks.true) ∙ l.invariant.3)
+    (sym (stop _ _ _ _ _ _ _ _ c.loop-byte-test.true c.lacking-lacks.ensures c.if-slack-lacks.true) ∙ c.loop-byte.invariant.2)
 
-pub loop-i-preserved : goal.loop-i-preserved
-loop-i-preserved c =
-    let l = c.loop-i in
-    let p = c.args.interface.period.0 in
-    let n = c.lacking-lacks.ensures in (
-      omega arith,
-      rw c.next_place-place.ensures (next_below p l.place l.invariant.1),
-      rw c.carried-missing.ensures (carried_most p l.place _ _ c.if-slack-lacks.false),
-      on _ _ _ _ _ _ _ _ _ _ c.loop-i-test.true n c.if-slack-lacks.false c.carried-missing.ensures c.next_place-place.ensures ∙ l.invariant.3,
+pub loop-byte-preserved : goal.loop-byte-preserved
+loop-byte-preserved c =
+    let l = c.loop-byte in
+    let p = Π c.args.interface in
+    let n = c.next-slot.ensures in (
+      rw n.place (next_below p l.slot.place l.invariant.0),
+      rw n.lacks (carried_most p l.slot.place _ _ c.if-slack-lacks.false),
+      on _ _ _ _ _ _ _ _ _ _ c.loop-byte-test.true c.lacking-lacks.ensures c.if-slack-lacks.false n.lacks n.place ∙ l.invariant.2,
     )
 
 pub returns : goal.returns
 unfolding keeps
 returns c =
-    answers _ _ _ c.requires true (rw (drop_of_length-le _ c.loop-i-test.false) at c.loop-i.invariant.3)
+    answers _ _ _ c.requires true (rw (drop_of_length-le _ c.loop-byte-test.false) at c.loop-byte.invariant.2)

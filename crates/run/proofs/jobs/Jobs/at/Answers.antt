@@ -1,0 +1,11 @@
+-- The job at a place has the numbers that the columns have there.
+use Rattle.run.proofs.Rows.{at}
+use Rattle.run.proofs.Shifted.{read}
+use Rattle.std.proofs.Common.{get_or, pos}
+use native.Mathlib.Omega.{arith}
+use Rattle.run.proofs.jobs.Jobs.at.Goals as goal
+
+pub returns : goal.returns
+returns c =
+    let jobs = c.args.self.now in
+    rw (read (get_or jobs.releases.now c.args.i (pos 0)) (omega arith)) (at jobs c.requires.0 c.args.i c.requires.1)
