@@ -31,7 +31,8 @@ fn put_entry(placed: Placed, byte: usize, entry: &mut [u8])
     }
 }
 
-// The entries of the components in their order, each read between its edges and judged after its children.
+// The entries of the components in their order, each read between its edges and judged after its children. The listing's lines have a loop of their own: a
+// closure for both would bring the room of what each writes into the pass's contract.
 #[tactic(auto, using(tree::proofs::Pass::known_within))]
 pub(crate) fn put_all(sheet: &[u8], contents: &Contents, entries: &mut [u8])
     requires known { Known sheet.now contents.now.edges contents.now.count }

@@ -12,7 +12,7 @@ use judge::signed::twos_complement;
 use transfer::reply::Reply;
 use tree::answer::{Outcome, Placed};
 
-// The number of an answer: 0, or its refusal's.
+// The number of an answer, 0 or its refusal's: a host in C is answered by numbers (RULES 12).
 pub(crate) fn number_in<T: Copy>(answer: Result<T, Refusal>) -> u32
     ensures { result ≡ number_in answer }
 {
@@ -22,7 +22,7 @@ pub(crate) fn number_in<T: Copy>(answer: Result<T, Refusal>) -> u32
     }
 }
 
-// Where there is no margin, zeros stand for it.
+// A host in C reads the verdict as a code (RULES 14); where there is no margin, zeros stand for it.
 #[tactic(auto, unfolding(crate::specs::Answer::judged_reply))]
 fn judged_reply(number: u16, judgement: Judgement) -> Reply
     ensures { result ≡ judged_reply number (judgement_in judgement) }

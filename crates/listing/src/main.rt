@@ -8,7 +8,7 @@ use report::listing::listing;
 use std::io;
 use std::io::Read;
 
-// Reads until the row is full or the input ends.
+// Reads until the row is full or the input ends: by single reads, since std's reading to the end wants a heap.
 fn read_sheet(input: &mut impl Read, row: &mut [u8]) -> io::Result<usize>
     ensures { IfOk result (λ held. held ≤ length row.new) }
 {

@@ -25,7 +25,8 @@ fn put_line(page: &mut Page, at: usize, line: &Line) -> usize
     end
 }
 
-// The lines of the components in their order, each read between its edges and judged after its children.
+// The lines of the components in their order, each read between its edges and judged after its children. The host's entries have a loop of their own: a
+// closure for both would bring the room of what each writes into the pass's contract.
 #[tactic(auto, using(tree::proofs::Pass::known_within))]
 fn add_components(sheet: &[u8], contents: &Contents, page: &mut Page) -> usize
     requires { Known sheet.now contents.now.edges contents.now.count }
