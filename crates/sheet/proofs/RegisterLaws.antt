@@ -1,4 +1,4 @@
--- The components as the walk over the pairs is given them: what the first walk holds of each is its entry, so that walk's answer is the sheet's.
+-- The components as the walk over the pairs is given them: what the first walk notes of each is its entry, so that walk's answer is the sheet's.
 use Prim.Native.Nat.{ℕ, zero, suc, ◌+◌, ◌≤◌, ◌<◌}
 use mathlib.Core.Path.{◌≡◌, refl, ap, ◌∙◌}
 use mathlib.Core.List.{List}
@@ -11,7 +11,7 @@ use Rattle.std.proofs.lemmas.List.{get_or-drop, get_or-take, length-take}
 use Rattle.budget.proofs.Refusals.{some}
 use Rattle.sheet.specs.declared.contents.Contents as contents
 use Rattle.sheet.specs.declared.fault.Fault.{Fault}
-use Rattle.sheet.specs.declared.judging.State as judging
+use Rattle.sheet.specs.declared.walk.Noted.{Noted}
 use Rattle.sheet.specs.declared.walk.Walked.{Walked}
 use Rattle.sheet.specs.Judging.{State, refuse, ended}
 use Rattle.sheet.specs.Register.{walked, entry_of, entries_from, register_of}
@@ -21,6 +21,7 @@ use Rattle.sheet.specs.Contents.{edges_of, contents_of}
 use Rattle.sheet.specs.Answered.{checked_in, contents_in}
 use Rattle.sheet.specs.inner.Noted.{Found, Refused}
 use Rattle.sheet.specs.inner.PairCourse.{entries_in, Walkable, Ends}
+use Rattle.sheet.proofs.Walking.{unnoted}
 use Rattle.sheet.proofs.HeldLaws.{walked_few, walked_within, unrefused_short, count_held, numbered_held}
 
 -- a refused sheet
@@ -53,17 +54,17 @@ module _ (s : List ℕ) (w : Walked) (f : Found s w) where
   pub few : w.state.count ≤ 256
   few = let h = walked_few s in let e = counted in omega arith
 
-  entries_are : (n k : ℕ) → k + n ≤ w.state.count → entries_in (take n (drop (suc k) w.held)) ≡ entries_from s n k
+  entries_are : (n k : ℕ) → k + n ≤ w.state.count → entries_in (take n (drop (suc k) w.components)) ≡ entries_from s n k
   unfolding entries_from entry_of
   entries_are zero k h = refl
   entries_are (suc n) k h =
-      let i : suc k < length w.held = omega (arith, few, f.long) in
-      rw (drop-cons w.held (suc k) w.state i, f.lowest (suc k) w.state (omega arith), f.tasks (suc k) w.state (omega arith), entries_are n (suc k) (omega arith))
+      let i : suc k < length w.components = omega (arith, few, f.long) in
+      rw (drop-cons w.components (suc k) unnoted i, f.noted (suc k) unnoted (omega arith), entries_are n (suc k) (omega arith))
 
-  -- what the walk over the pairs is lent: as many states as components, behind the first
+  -- what the walk over the pairs is lent: as much as there are components, behind the first
   module _ (n : ℕ) (e : n ≡ w.state.count) where
-    abbrev lent : List judging.State
-    lent = take n (drop 1 w.held)
+    abbrev lent : List Noted
+    lent = take n (drop 1 w.components)
 
     register_is : entries_in lent ≡ register_of s
     unfolding register_of
@@ -75,12 +76,12 @@ module _ (s : List ℕ) (w : Walked) (f : Found s w) where
           within = rw (← placed) (walked_within s);
           short = unrefused_short s unrefused;
           numbered = λ k d h.
-              let l = length-take n (drop 1 w.held) in
+              let l = length-take n (drop 1 w.components) in
               let i : k < (walked s).count = omega (arith, counted) in
               let j : 1 + k ≡ suc k = omega arith in
-              let at : get_or lent k d ≡ get_or w.held (suc k) d =
-              get_or-take n (drop 1 w.held) k d (omega arith) ∙ (get_or-drop 1 w.held k d ∙ ap (λ (m : ℕ). get_or w.held m d) j) in
-              rw (at, f.lowest (suc k) d (omega arith)) (numbered_held s (suc k) (omega (arith, count_held s (suc k) (omega arith))));
+              let at : get_or lent k d ≡ get_or w.components (suc k) d =
+              get_or-take n (drop 1 w.components) k d (omega arith) ∙ (get_or-drop 1 w.components k d ∙ ap (λ (m : ℕ). get_or w.components m d) j) in
+              rw (at, f.noted (suc k) d (omega arith)) (numbered_held s (suc k) (omega (arith, count_held s (suc k) (omega arith))));
         }
 
     paired_is : paired_from (entries_in lent) s w.state.place ≡ paired s

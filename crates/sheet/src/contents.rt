@@ -22,6 +22,6 @@ pub fn contents_of(sheet: &[u8]) -> Result<Contents, Fault>
     let count = answer(sheet, &found)?;
     Ok(Contents {
         count,
-        edges: found.held.map(|state| state.place),
+        edges: found.edges,
     })
 }

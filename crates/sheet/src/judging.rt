@@ -26,7 +26,7 @@ pub struct State {
     pub place: usize,
     pub count: usize,
     pub lowest: u32,
-    pub tasks: usize,
+    pub tasks: u32,
 }
 
 // Before the first record: a sheet of too many bytes is refused as a whole.
@@ -85,7 +85,7 @@ fn check_standing(state: State, task: Task, stated: bool) -> Result<(), Refusal>
     if state.count == 0 {
         return Err(Refusal::NoComponent);
     }
-    if Table::MOST <= state.tasks {
+    if Table::MOST <= state.tasks as usize {
         return Err(Refusal::Tasks);
     }
     check_form(task, stated)
