@@ -57,9 +57,6 @@ pub record PairTaking (rest : List ℕ) (pairs : List Pair) (count place : ℕ) 
   pub few : count ≤ 256
 
 module _ (rest : List ℕ) where
-  pub taking_none : (pairs : List Pair) → pairs ≡ replicate 256 no_pair → PairTaking rest pairs 0 0
-  taking_none pairs e = record { ps = []; held = e; counted = refl; todo = refl; here = omega arith; few = omega arith }
-
   module _ (pairs : List Pair) (count place : ℕ) (w : PairTaking rest pairs count place) where
     -- a pair record is read there, with this size
     pub taking_more : (r : Record) (p : Pair) (size : ℕ) → r ≡ record_of (take (length rest - place) (drop place rest)) → r ≡ PairRecord p → size ≡ size_of (PairRecord p) → count < 256

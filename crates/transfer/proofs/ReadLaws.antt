@@ -61,9 +61,6 @@ pub record Taking (part : List ℕ) (start : ℕ) (table : Table) (place left : 
   pub few : length ks + left ≡ 64
 
 module _ (part : List ℕ) (start : ℕ) where
-  pub taking_none : (table : Table) → table ≡ table_of [] → start ≤ length part → Taking part start table start 64
-  taking_none table e h = record { ks = []; held = e; todo = refl; here = h; few = refl }
-
   module _ (table : Table) (place : ℕ) where
     -- a task record is read there, with this size
     pub taking_more : (r : Record) (task : Task) (stated : Bool) (size : ℕ) → r ≡ record_of (take (length part - place) (drop place part)) → r ≡ TaskRecord stated task → size ≡ size_of (TaskRecord stated task)

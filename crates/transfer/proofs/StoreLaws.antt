@@ -93,9 +93,6 @@ pub record Storing (start : List ℕ) (at : ℕ) (ks : List Task) (buffer : List
   pub here : place + length (tasks_bytes (drop i ks)) ≡ at + length (tasks_bytes ks)
 
 module _ (start : List ℕ) (at : ℕ) (ks : List Task) where
-  pub storing_none : Storing start at ks start at 0
-  storing_none = record { todo = refl; long = refl; here = refl }
-
   module _ (buffer : List ℕ) (place i : ℕ) (w : Storing start at ks buffer place i) where
     -- there is room for the next
     pub storing_room : (r : Record) → i < length ks → at + length (tasks_bytes ks) ≤ length start → r ≡ formed (get_or ks i no_task) → place + length (record_bytes r) ≤ length buffer

@@ -57,16 +57,17 @@ fn with_head(head: Head, table: Table) -> Component
 
 // Reads the component of a part: its record, then the task records behind it. A part that does not begin with a component record
 // is read as the component of a refused reading.
+#[tactic(auto, unfolding(crate::specs::Reading::component_from, crate::specs::Reading::with_head))]
 pub fn read_part(part: &[u8]) -> Component
     ensures { result ≡ component_from part.now (record_of part.now) }
 {
-    let Ok(record) = record_of(part) else {
-        return refused();
-    };
-    let Record::Component(head) = record else {
-        return refused();
-    };
-    with_head(head, read_tasks(part, size_of(record)))
+    match record_of(part) {
+        Ok(Record::Component(head)) => {
+            let size = size_of(Record::Component(head));
+            with_head(head, read_tasks(part, size))
+        }
+        _ => refused(),
+    }
 }
 
 // Reads the component at a place of a sheet: the sheet's refusal, then 15 where none stands there.

@@ -22,7 +22,7 @@ use Rattle.judge.specs.Capacity.{capacity_of}
 use Rattle.judge.specs.Judged.{judged_at, verdict_answer}
 use Rattle.record.proofs.Cases.{cases, either}
 use Rattle.tree.specs.numbers.Load.{Load}
-use Rattle.tree.specs.Offer.{Told, ToldBy}
+use Rattle.tree.specs.inner.Told.{Told, ToldBy}
 use Rattle.tree.specs.Outcome.{outcome_of}
 
 answer_not : (u : Units) (v : Verdict) (n : ℕ) → Answered u v ≡ Refused n → ⊥

@@ -1,5 +1,5 @@
 -- What a component offers to its parent once it is judged (RULES 7): the capacity it is accepted with, for its period and deadline.
-use Rattle.std.specs.Prelude.{ℕ, ◌<◌, Bool, cond, not, List, [], ◌∷◌, ◌++◌, Option, Some, None, eqb}
+use Rattle.std.specs.Prelude.{ℕ, Bool, cond, not, List, [], ◌∷◌, ◌++◌, Option, Some, None, eqb}
 use Rattle.budget.specs.declared.component.Component.{Component}
 use Rattle.budget.specs.declared.quantity.Units.{Units}
 use Rattle.budget.specs.declared.task.Task.{Task}
@@ -14,12 +14,12 @@ use Rattle.tree.specs.numbers.Offer.{Offer}
 abbrev pub withheld : ℕ
 withheld = 4_294_967_295
 
--- a capacity that may be withheld, in the paper's numbers
+-- how a capacity of the code is read as such, where none is withheld
 abbrev pub capacity_in : Option Units → ℕ
 capacity_in None = withheld
 capacity_in (Some u) = u.0
 
--- an offer in the paper's numbers
+-- how an offer of the code is read as such
 abbrev pub offered_in : code.Offer → Offer
 offered_in o = record { number = o.number; capacity = capacity_in o.capacity; period = o.period.0; deadline = o.deadline.0 }
 
@@ -71,18 +71,7 @@ offers_in (n ∷ q ∷ []) = []
 offers_in (n ∷ q ∷ p ∷ []) = []
 offers_in (n ∷ q ∷ p ∷ d ∷ xs) = record { number = n; capacity = q; period = p; deadline = d } ∷ offers_in xs
 
--- the row that offers stand for, one behind the other
+-- how a row of offers of the code is read as such a row
 unfoldable pub row_in : List code.Offer → List ℕ
 row_in [] = []
 row_in (o ∷ os) = noted (offered_in o) ++ row_in os
-
--- no capacity that a component is accepted with stands in place of one that is withheld
-abbrev pub ToldBy : Judged → Type 0
-ToldBy (Refused n) = Unit {0}
-ToldBy (Answered q Verdict.Accepted) = q.0 < withheld
-ToldBy (Answered q (Verdict.Short t)) = Unit {0}
-ToldBy (Answered q Verdict.None) = Unit {0}
-
-abbrev pub Told : Outcome → Type 0
-Told Outcome.Waiting = Unit {0}
-Told (Outcome.Judged a) = ToldBy a.verdict

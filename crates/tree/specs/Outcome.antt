@@ -10,7 +10,7 @@ use Rattle.tree.specs.numbers.Outcome.{Outcome}
 unfoldable pub outcome_of : Load → Outcome
 outcome_of l = cond l.waiting Outcome.Waiting (Outcome.Judged (judge_answer l.component))
 
--- an outcome in the numbers of RULES 12
+-- how an outcome of the code is read as such
 abbrev pub outcome_in : code.Outcome → Outcome
 outcome_in variant.Waiting = Outcome.Waiting
 outcome_in (variant.Judged r) = Outcome.Judged (answer_in r)

@@ -42,11 +42,12 @@ placing s k =
     let r = reading s k in
     cond (eqb r.refusal refusal.none) (Placed.Found r.component.number (outcome_at s k)) (Placed.Refused r.refusal r.place)
 
--- what is answered at a place, in the numbers of RULES 12; refused, the load is that of the component that RULES 11 fixes
+-- how what is loaded at a place is read as such; refused, it is the component that RULES 11 fixes
 abbrev pub loaded_in : Result place.Loaded Fault → Loaded
 loaded_in (Ok l) = record { refusal = refusal.none; place = 0; number = l.number; load = load_in l.workload }
 loaded_in (Err f) = record { refusal = refusal.number_of f.refusal; place = f.place; number = 0; load = ready refused }
 
+-- how what is answered at a place is read as such
 abbrev pub placed_in : Result answer.Placed Fault → Placed
 placed_in (Ok p) = Placed.Found p.number (outcome_in p.outcome)
 placed_in (Err f) = Placed.Refused (refusal.number_of f.refusal) f.place

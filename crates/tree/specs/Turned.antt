@@ -15,6 +15,6 @@ pub record Turned (c : Component) (pairs : List Pair) (k : ℕ) (before after : 
   pub outcome : t.outcome ≡ outcome_of (load_on pairs (offers_in (take (4 * k) before)) c)
   pub row : after ≡ sets before (4 * k) (noted (offer_of c t.outcome))
 
--- what a turn answers, in the numbers of RULES 12
+-- how the answer of a turn is read as such
 abbrev pub turn_in : code.Placed → Turn
 turn_in t = record { number = t.number; outcome = outcome_in t.outcome }

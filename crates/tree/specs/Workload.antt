@@ -35,7 +35,7 @@ waiting = record { waiting = true; component = refused }
 abbrev pub ready : Component → Load
 ready c = record { waiting = false; component = c }
 
--- a workload in the numbers of RULES 12
+-- how a workload of the code is read as such
 abbrev pub load_in : Option Component → Load
 load_in None = waiting
 load_in (Some c) = ready c

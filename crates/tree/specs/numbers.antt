@@ -1,4 +1,4 @@
--- Answers of the tree in the numbers of RULES 12; a reading beside each definition that speaks of them says what src/ answers in these.
+-- What the definitions of this crate speak of, in the numbers of RULES 12; beside them stands how what the code answers is read as such.
 pub mod Load
 pub mod Loaded
 pub mod Offer

@@ -38,18 +38,14 @@ pub(crate) fn wanted_below(pairs: &[Pair], number: u16) -> Wanted
 fn head_of(part: &[u8]) -> Head
     ensures { let c = component_from part.now (record_of part.now) in result ≡ record { number = c.number; period = c.period; capacity = c.capacity; deadline = c.deadline } }
 {
-    let none = Head {
-        number: 0,
-        period: Time(1),
-        capacity: Capacity::Stated(Units(1)),
-        deadline: Time(1),
-    };
-    let Ok(record) = record_of(part) else {
-        return none;
-    };
-    match record {
-        Record::Component(head) => head,
-        _ => none,
+    match record_of(part) {
+        Ok(Record::Component(head)) => head,
+        _ => Head {
+            number: 0,
+            period: Time(1),
+            capacity: Capacity::Stated(Units(1)),
+            deadline: Time(1),
+        },
     }
 }
 

@@ -1,7 +1,8 @@
 // The offer of a component, by what it is answered (RULES 7).
 ghost use Rattle.std.specs.Prelude.{◌≡◌, ◌<◌, IfSome};
-ghost use Rattle.tree.specs.Offer.{Told, capacity_in, offered_in, offering, offer_of};
+ghost use Rattle.tree.specs.Offer.{capacity_in, offered_in, offering, offer_of};
 ghost use Rattle.tree.specs.Outcome.{outcome_in};
+ghost use Rattle.tree.specs.inner.Told.{Told};
 
 use crate::answer::Outcome;
 use crate::offer::Offer;
@@ -29,11 +30,10 @@ pub(crate) fn offer_of(component: Component, outcome: Outcome) -> Offer
 {
     match outcome {
         Outcome::Waiting => offering(component, None),
-        Outcome::Judged(Err(_)) => offering(component, None),
-        Outcome::Judged(Ok(judgement)) => match judgement.verdict {
-            Verdict::Accepted => offering(component, Some(judgement.capacity)),
-            Verdict::Short(_) => offering(component, None),
-            Verdict::None => offering(component, None),
-        },
+        Outcome::Judged(Ok(judgement)) if judgement.verdict == Verdict::Accepted => offering(
+            component,
+            Some(judgement.capacity),
+        ),
+        Outcome::Judged(_) => offering(component, None),
     }
 }

@@ -6,7 +6,7 @@ use std::marker::Model;
 
 // The first `count` numbers: one that is asked for, and at most one for each pair.
 #[derive(Drop)]
-pub struct Wanted {
+pub(crate) struct Wanted {
     count: usize,
     numbers: [u16; 257],
 }
@@ -22,7 +22,7 @@ impl Model for Wanted {
 }
 
 impl Wanted {
-    pub fn only(number: u16) -> Self
+    pub(crate) fn only(number: u16) -> Self
         ensures { result ≡ number ∷ [] }
     {
         Wanted {
@@ -31,7 +31,7 @@ impl Wanted {
         }
     }
 
-    pub fn push(&mut self, number: u16)
+    pub(crate) fn push(&mut self, number: u16)
         requires { length self.old < 257 }
         ensures { self.new ≡ self.old ++ number ∷ [] }
     {
@@ -39,7 +39,7 @@ impl Wanted {
         self.count += 1;
     }
 
-    pub fn holds(&self, number: u16) -> bool
+    pub(crate) fn holds(&self, number: u16) -> bool
         ensures { result ≡ holds self.now number }
     {
         self.numbers[..self.count].contains(&number)

@@ -8,7 +8,8 @@ use Rattle.record.specs.Layout.{record_of}
 use Rattle.transfer.specs.ReadAt.{read_at}
 use Rattle.transfer.specs.Reading.{component_from}
 use Rattle.transfer.proofs.ReadRight.{part_right}
-use Rattle.tree.specs.Offer.{Told, offer_of}
+use Rattle.tree.specs.Offer.{offer_of}
+use Rattle.tree.specs.inner.Told.{Told}
 use Rattle.tree.specs.inner.Below.{holds, outcome_wanted}
 use Rattle.tree.proofs.Accepted.{told}
 use Rattle.tree.proofs.below.offer_at.Goals as goal

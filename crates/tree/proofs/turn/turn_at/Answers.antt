@@ -6,7 +6,8 @@ use Rattle.budget.specs.declared.component.Component.{Component}
 use Rattle.budget.specs.Component.{Right}
 use Rattle.transfer.proofs.ReadRight.{read_at_right}
 use Rattle.tree.specs.numbers.Offer.{Offer}
-use Rattle.tree.specs.Offer.{Told, noted, offer_of, row_in}
+use Rattle.tree.specs.Offer.{noted, offer_of, row_in}
+use Rattle.tree.specs.inner.Told.{Told}
 use Rattle.tree.specs.Outcome.{outcome_in}
 use Rattle.tree.proofs.Accepted.{told}
 use Rattle.tree.proofs.OfferLaws.{row_before, row_set}

@@ -68,11 +68,11 @@ loop-pair-preserved c =
     let p = (goal.at.loop-pair-preserved c).In-loop-pair in
     let l = c.loop-pair in
     elim c.if-pair-component.branch [
-      | then-pair-component+in_ok-offer+in_ok-capacity w ↦ let is = w.loaded-is ∙ w.with_child-loaded.ensures in record {
+      | then-pair-component+in_ok-offer+in_ok-capacity w ↦ rw w.loaded-is (record {
         gathered = gathering_more c.args.pairs.now (map offered_in c.args.offers.now) c.args.component _ _ (pair p) (here p) l.loaded.table l.loaded.common l.invariant.gathered w.if-pair-component.true (offered_in w.in_ok-offer.offer)
-            (looked _ _ _ w.find_offer.ensures _ w.in_ok-offer.was) (told_some w.in_ok-offer.offer w.in_ok-capacity.capacity w.in_ok-capacity.was) _ (ap (λ (x : Component). x.table) is) _ (ap (λ (x : Component). x.common) is);
-        same = same_on c.args.component l.loaded _ _ _ l.invariant.same is;
-      }
+            (looked _ _ _ w.find_offer.ensures _ w.in_ok-offer.was) (told_some w.in_ok-offer.offer w.in_ok-capacity.capacity w.in_ok-capacity.was) _ (ap (λ (x : Component). x.table) w.with_child-loaded.ensures) _ (ap (λ (x : Component). x.common) w.with_child-loaded.ensures);
+        same = same_on c.args.component l.loaded _ _ _ l.invariant.same w.with_child-loaded.ensures;
+      })
       | else-pair-component w ↦ rw w.loaded-is (record {
         gathered = gathering_same c.args.pairs.now (map offered_in c.args.offers.now) c.args.component _ _ (pair p) (here p) l.loaded.table l.loaded.common l.invariant.gathered w.if-pair-component.false;
         same = l.invariant.same;
