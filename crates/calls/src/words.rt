@@ -38,6 +38,11 @@ impl<'a> Words<'a> {
         self.before(|byte| *byte == b' ')
     }
 
+    // The next word as a name, empty where it is no text.
+    pub fn name(&mut self) -> &'a str {
+        str::from_utf8(self.word()).unwrap_or("")
+    }
+
     // A number, or the largest where it is larger; its digits have the codes 48 to 57, of which the last four bits are the digit.
     pub fn number(&mut self) -> u64 {
         self.before(|byte| *byte < b'0')

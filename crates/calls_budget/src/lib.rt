@@ -8,6 +8,6 @@ use calls::print::Out;
 use calls::words::Words;
 
 // Answers the call, and says whether it is one of this crate.
-pub fn answer(call: &[u8], words: Words<'_>, out: &mut Out) -> bool {
+pub fn answer(call: &str, words: Words<'_>, out: &mut Out) -> bool {
     numbers::answer(call, words, out) || edits::answer(call, words, out)
 }

@@ -55,18 +55,18 @@ fn supply(words: &mut Words<'_>, out: &mut Out) {
 }
 
 // Answers the call, and says whether it is one of these.
-pub(crate) fn answer(call: &[u8], mut words: Words<'_>, out: &mut Out) -> bool {
+pub(crate) fn answer(call: &str, mut words: Words<'_>, out: &mut Out) -> bool {
     let words = &mut words;
     match call {
-        b"check_task" => check_task(words, out),
-        b"check_table" => check_table(words, out),
-        b"check_interface" => check_interface(words, out),
-        b"check_component" => check_component(words, out),
-        b"dedicated" => dedicated(out),
-        b"common_divisor" => common_divisor(words, out),
-        b"common_period" => common_period(words, out),
-        b"demand" => demand(words, out),
-        b"supply" => supply(words, out),
+        "check_task" => check_task(words, out),
+        "check_table" => check_table(words, out),
+        "check_interface" => check_interface(words, out),
+        "check_component" => check_component(words, out),
+        "dedicated" => dedicated(out),
+        "common_divisor" => common_divisor(words, out),
+        "common_period" => common_period(words, out),
+        "demand" => demand(words, out),
+        "supply" => supply(words, out),
         _ => return false,
     }
     true

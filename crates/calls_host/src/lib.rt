@@ -52,12 +52,12 @@ fn host_all(words: &mut Words<'_>, out: &mut Out) {
 }
 
 // Answers the call, and says whether it is one of this crate.
-pub fn answer(call: &[u8], mut words: Words<'_>, out: &mut Out) -> bool {
+pub fn answer(call: &str, mut words: Words<'_>, out: &mut Out) -> bool {
     let words = &mut words;
     match call {
-        b"host" => host(words, out),
-        b"host_check" => host_check(words, out),
-        b"host_all" => host_all(words, out),
+        "host" => host(words, out),
+        "host_check" => host_check(words, out),
+        "host_all" => host_all(words, out),
         _ => return false,
     }
     true

@@ -73,11 +73,11 @@ fn walk(words: &mut Words<'_>, out: &mut Out) {
 }
 
 // Answers the call, and says whether it is one of this crate.
-pub fn answer(call: &[u8], mut words: Words<'_>, out: &mut Out) -> bool {
+pub fn answer(call: &str, mut words: Words<'_>, out: &mut Out) -> bool {
     let words = &mut words;
     match call {
-        b"legal" => legal(words, out),
-        b"walk" => walk(words, out),
+        "legal" => legal(words, out),
+        "walk" => walk(words, out),
         _ => return false,
     }
     true

@@ -44,13 +44,13 @@ fn read_pair(words: &mut Words<'_>, out: &mut Out) {
 }
 
 // Answers the call, and says whether it is one of these.
-pub(crate) fn answer(call: &[u8], mut words: Words<'_>, out: &mut Out) -> bool {
+pub(crate) fn answer(call: &str, mut words: Words<'_>, out: &mut Out) -> bool {
     let words = &mut words;
     match call {
-        b"sheet" => sheet(words, out),
-        b"part" => part(words, out),
-        b"read" => read(words, out),
-        b"read_pair" => read_pair(words, out),
+        "sheet" => sheet(words, out),
+        "part" => part(words, out),
+        "read" => read(words, out),
+        "read_pair" => read_pair(words, out),
         _ => return false,
     }
     true

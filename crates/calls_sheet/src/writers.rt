@@ -48,12 +48,12 @@ fn write_pair(words: &mut Words<'_>, out: &mut Out) {
 }
 
 // Answers the call, and says whether it is one of these.
-pub(crate) fn answer(call: &[u8], mut words: Words<'_>, out: &mut Out) -> bool {
+pub(crate) fn answer(call: &str, mut words: Words<'_>, out: &mut Out) -> bool {
     let words = &mut words;
     match call {
-        b"write" => write(words, out),
-        b"write_end" => write_end(words, out),
-        b"write_pair" => write_pair(words, out),
+        "write" => write(words, out),
+        "write_end" => write_end(words, out),
+        "write_pair" => write_pair(words, out),
         _ => return false,
     }
     true

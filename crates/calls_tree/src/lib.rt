@@ -57,11 +57,11 @@ fn tree(words: &mut Words<'_>, out: &mut Out) {
 }
 
 // Answers the call, and says whether it is one of this crate.
-pub fn answer(call: &[u8], mut words: Words<'_>, out: &mut Out) -> bool {
+pub fn answer(call: &str, mut words: Words<'_>, out: &mut Out) -> bool {
     let words = &mut words;
     match call {
-        b"workload" => workload(words, out),
-        b"tree" => tree(words, out),
+        "workload" => workload(words, out),
+        "tree" => tree(words, out),
         _ => return false,
     }
     true

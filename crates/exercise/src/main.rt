@@ -10,7 +10,7 @@ use std::io::Read;
 // The answer to a line, tried crate by crate: its first word names the call.
 fn answer(line: &[u8], out: &mut Out) {
     let mut words = Words::of(line);
-    let call = words.word();
+    let call = words.name();
     let answered = calls_budget::answer(call, words, out)
         || calls_judge::answer(call, words, out)
         || calls_run::answer(call, words, out)
