@@ -12,6 +12,7 @@ use Rattle.budget.specs.Component.{Right, refused, with_tasks}
 use Rattle.budget.specs.Edit.{edited, adding_answer, removing_answer}
 use Rattle.budget.specs.Make.{making_answer}
 use Rattle.budget.specs.Refusal as refusal
+use Rattle.budget.specs.inner.Edits.{removed_answer}
 use Rattle.budget.proofs.CommonLaws.{with_tasks_right, refused_right}
 
 -- whichever of the two is answered
@@ -30,6 +31,10 @@ adding_right c k = edited_right _ _ _
 pub removing_right : (c : Component) (at : ℕ) → Right (removing_answer c at).component
 unfolding removing_answer
 removing_right c at = edited_right _ _ _
+
+pub removed_right : (c : Component) (at : ℕ) → Right (removed_answer c at).component
+unfolding removed_answer
+removed_right c at = edited_right _ _ _
 
 pub making_right : (n : ℕ) (p : Time) (q : Capacity) (d : Time) (t : Table) → Right (making_answer n p q d t).component
 unfolding making_answer

@@ -5,6 +5,7 @@ pub mod Component
 pub mod Demand
 pub mod Edit
 pub mod Interface
+pub mod Known
 pub mod Limits
 pub mod Make
 pub mod Refusal

@@ -65,7 +65,7 @@ pub fn common_of(period: Time, table: Table) -> Common
     common
 }
 
-// Whether two stored values are the same.
+// Whether two stored values are the same, as derived equality has it.
 pub fn same_common(a: Common, b: Common) -> bool
     ensures { result ≡ same_common a b }
 {

@@ -12,5 +12,6 @@ pub mod known;
 pub mod make;
 pub mod quantity;
 pub mod refusal;
+pub mod right;
 pub mod supply;
 pub mod task;

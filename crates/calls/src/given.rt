@@ -1,191 +1,101 @@
-// What a call gives: tasks, tables, interfaces and components, each with the place in the line after it.
-ghost use Rattle.std.specs.Prelude.{◌≤◌};
-
-use crate::words;
+// What a call gives: tasks, tables, interfaces and components.
+use crate::words::Words;
 use budget::common::Common;
 use budget::component::{Capacity, Component};
 use budget::interface::Interface;
 use budget::quantity::{Time, Units};
 use budget::task::{Table, Task};
 
-#[derive(Clone, Copy)]
-pub struct GivenTask {
-    pub value: Task,
-    pub at: usize,
-}
-
-#[derive(Clone, Copy)]
-pub struct GivenTable {
-    pub value: Table,
-    pub at: usize,
-}
-
-#[derive(Clone, Copy)]
-pub struct GivenInterface {
-    pub value: Interface,
-    pub at: usize,
-}
-
-#[derive(Clone, Copy)]
-pub struct GivenCapacity {
-    pub value: Capacity,
-    pub at: usize,
-}
-
-#[derive(Clone, Copy)]
-pub struct GivenCommon {
-    pub value: Common,
-    pub at: usize,
-}
-
 // The numbers that a component begins with, before its stored common period and its table.
 #[derive(Clone, Copy)]
-pub struct GivenHead {
+pub struct Head {
     pub number: u16,
     pub period: Time,
     pub capacity: Capacity,
     pub deadline: Time,
-    pub at: usize,
 }
 
-#[derive(Clone, Copy)]
-pub struct GivenComponent {
-    pub value: Component,
-    pub at: usize,
-}
-
-pub fn read_task(line: &[u8], start: usize) -> GivenTask {
-    let period = words::read_long(line, start);
-    let work = words::read_long(line, period.at);
-    let deadline = words::read_long(line, work.at);
-    let lateness = words::read_long(line, deadline.at);
-    GivenTask {
-        value: Task {
-            period: Time(period.value),
-            work: Units(work.value),
-            deadline: Time(deadline.value),
-            lateness: Time(lateness.value),
-        },
-        at: lateness.at,
-    }
-}
-
-pub fn read_interface(line: &[u8], start: usize) -> GivenInterface {
-    let period = words::read_long(line, start);
-    let capacity = words::read_long(line, period.at);
-    let deadline = words::read_long(line, capacity.at);
-    GivenInterface {
-        value: Interface {
-            period: Time(period.value),
-            capacity: Units(capacity.value),
-            deadline: Time(deadline.value),
-        },
-        at: deadline.at,
-    }
-}
-
-// How many tasks are given with a count: a count above 64 comes with 64 of them.
-fn tasks_given(count: u64) -> usize
-    ensures { result ≤ 64 }
-{
-    if count > 64 {
-        return 64;
-    }
-    count as usize
-}
-
-// A table; its places from the count on hold what is no task, with a lateness above the deadline and both as large as can be, so that
+// What stands in a task place that is to be ignored: no task, with a lateness above the deadline and both as large as can be, so that
 // nothing may count with them.
-pub fn read_table(line: &[u8], start: usize) -> GivenTable {
-    let count = words::read_number(line, start);
-    let given = tasks_given(count.value);
-    let mut tasks = [Task {
-        period: Time(9),
-        work: Units(0),
-        deadline: Time(4294967294),
-        lateness: Time(4294967295),
-    }; 64];
-    let mut at = count.at;
-    let mut i: usize = 0;
-    while i < given {
-        let read = read_task(line, at);
-        let task = read.value;
-        tasks[i] = task;
-        at = read.at;
-        i += 1;
-    }
-    GivenTable {
-        value: Table {
-            count: count.value as usize,
-            tasks: tasks,
-        },
-        at: at,
-    }
-}
+const NO_TASK: Task = Task {
+    period: Time(9),
+    work: Units(0),
+    deadline: Time(4_294_967_294),
+    lateness: Time(4_294_967_295),
+};
 
-fn read_capacity(line: &[u8], start: usize) -> GivenCapacity {
-    let at = words::after_word(line, start);
-    if words::begins_with(line, start, b's') {
-        let units = words::read_long(line, at);
-        return GivenCapacity {
-            value: Capacity::Stated(Units(units.value)),
-            at: units.at,
-        };
+impl Words<'_> {
+    pub fn time(&mut self) -> Time {
+        Time(self.long())
     }
-    GivenCapacity {
-        value: Capacity::Asked,
-        at: at,
-    }
-}
 
-pub fn read_head(line: &[u8], start: usize) -> GivenHead {
-    let number = words::read_number(line, start);
-    let capacity = read_capacity(line, number.at);
-    let period = words::read_long(line, capacity.at);
-    let deadline = words::read_long(line, period.at);
-    let stated = capacity.value;
-    GivenHead {
-        number: (number.value % 65536) as u16,
-        period: Time(period.value),
-        capacity: stated,
-        deadline: Time(deadline.value),
-        at: deadline.at,
+    pub fn units(&mut self) -> Units {
+        Units(self.long())
     }
-}
 
-// A stored common period: a number, also one that no component may store, or `above` for the mark.
-fn read_common(line: &[u8], start: usize) -> GivenCommon {
-    if words::begins_with(line, start, b'a') {
-        return GivenCommon {
-            value: Common::Above,
-            at: words::after_word(line, start),
-        };
+    pub fn task(&mut self) -> Task {
+        Task {
+            period: self.time(),
+            work: self.units(),
+            deadline: self.time(),
+            lateness: self.time(),
+        }
     }
-    let length = words::read_long(line, start);
-    GivenCommon {
-        value: Common::Within(Time(length.value)),
-        at: length.at,
-    }
-}
 
-pub fn read_component(line: &[u8], start: usize) -> GivenComponent {
-    let head = read_head(line, start);
-    let period = head.period;
-    let capacity = head.capacity;
-    let deadline = head.deadline;
-    let stored = read_common(line, head.at);
-    let common = stored.value;
-    let given = read_table(line, stored.at);
-    let table = given.value;
-    GivenComponent {
-        value: Component {
-            number: head.number,
-            period,
+    pub fn interface(&mut self) -> Interface {
+        Interface {
+            period: self.time(),
+            capacity: self.units(),
+            deadline: self.time(),
+        }
+    }
+
+    // A count above 64 comes with 64 tasks.
+    pub fn table(&mut self) -> Table {
+        let count = self.place();
+        let mut tasks = [NO_TASK; 64];
+        for task in tasks.iter_mut().take(count) {
+            *task = self.task();
+        }
+        Table { count, tasks }
+    }
+
+    fn capacity(&mut self) -> Capacity {
+        match self.word() {
+            [b's', ..] => Capacity::Stated(self.units()),
+            _ => Capacity::Asked,
+        }
+    }
+
+    pub fn head(&mut self) -> Head {
+        let number = self.component_number();
+        let capacity = self.capacity();
+        Head {
+            number,
             capacity,
-            deadline,
-            common,
-            table,
-        },
-        at: given.at,
+            period: self.time(),
+            deadline: self.time(),
+        }
+    }
+
+    // A stored common period: a number, also one that no component may store, or `above` for the mark.
+    fn common(&mut self) -> Common {
+        if self.begins_with(b'a') {
+            self.word();
+            return Common::Above;
+        }
+        Common::Within(self.time())
+    }
+
+    pub fn component(&mut self) -> Component {
+        let head = self.head();
+        Component {
+            number: head.number,
+            period: head.period,
+            capacity: head.capacity,
+            deadline: head.deadline,
+            common: self.common(),
+            table: self.table(),
+        }
     }
 }

@@ -1,96 +1,91 @@
-// An answer is put into a lent row from a place on, and each function answers the next place; what does not fit is left out.
-use itoa::Buffer;
+// An answer, put together word by word.
+use arrayvec::ArrayVec;
+use budget::refusal::Refusal;
+use std::fmt::Display;
+use std::io::Write;
 
-pub fn put_byte(out: &mut [u8], at: usize, byte: u8) -> usize {
-    if at < out.len() {
-        out[at] = byte;
-        return at + 1;
+// An answer so far, its words separated by single spaces; what does not fit is left out. The longest is a part of a sheet, two digits
+// for each of its 65,536 bytes.
+#[derive(Drop)]
+pub struct Out {
+    bytes: ArrayVec<u8, 140_000>,
+}
+
+impl Out {
+    pub fn new() -> Self {
+        Out {
+            bytes: ArrayVec::new(),
+        }
     }
-    at
-}
 
-pub fn put_text(out: &mut [u8], start: usize, text: &[u8]) -> usize {
-    let mut at = start;
-    let mut i = 0;
-    while i < text.len() {
-        at = put_byte(out, at, text[i]);
-        i += 1;
+    pub fn clear(&mut self) {
+        self.bytes.clear();
     }
-    at
-}
 
-// Puts a number.
-pub fn put_digits(out: &mut [u8], start: usize, value: u64) -> usize {
-    let mut digits = Buffer::new();
-    put_text(out, start, digits.format(value).as_bytes())
-}
-
-// Puts a space and a number.
-pub fn put_number(out: &mut [u8], start: usize, value: u64) -> usize {
-    let at = put_byte(out, start, b' ');
-    put_digits(out, at, value)
-}
-
-// Puts a space and a number of 32 bits.
-pub fn put_long(out: &mut [u8], start: usize, value: u32) -> usize {
-    put_number(out, start, value as u64)
-}
-
-// Puts a text, a space and a number of 32 bits.
-pub fn put_said(out: &mut [u8], start: usize, text: &[u8], value: u32) -> usize {
-    let at = put_text(out, start, text);
-    put_long(out, at, value)
-}
-
-// Puts `ok`, or `refused` and its number, from the start on.
-pub fn put_status(out: &mut [u8], refusal: u16) -> usize {
-    if refusal == 0 {
-        return put_text(out, 0, b"ok");
+    pub fn as_slice(&self) -> &[u8] {
+        self.bytes.as_slice()
     }
-    put_said(out, 0, b"refused", refusal as u32)
-}
 
-// Puts an answer of one number: `ok`, or `refused` and its number, and then the number.
-pub fn put_answer(out: &mut [u8], refusal: u16, value: u32) -> usize {
-    let at = put_status(out, refusal);
-    put_long(out, at, value)
-}
-
-// The hex digit of a value below 16.
-fn hex_digit(value: u8) -> u8 {
-    if value % 16 < 10 {
-        return value % 16 + b'0';
+    // The space before a word that is not the first.
+    fn space(&mut self) {
+        if !self.bytes.is_empty() {
+            let _ = self.bytes.try_push(b' ');
+        }
     }
-    value % 16 - 10 + b'a'
-}
 
-// Puts a byte in hex.
-fn put_hex(out: &mut [u8], start: usize, byte: u8) -> usize {
-    let at = put_byte(out, start, hex_digit(byte / 16));
-    put_byte(out, at, hex_digit(byte))
-}
+    pub fn word(&mut self, word: impl Display + Drop) {
+        self.space();
+        let _ = write!(self.bytes, "{word}");
+    }
 
-// Puts a space and a row of bytes in hex, or `-` for none.
-pub fn put_row(out: &mut [u8], start: usize, row: &[u8]) -> usize {
-    if row.len() == 0 {
-        return put_text(out, start, b" -");
+    pub fn ok(&mut self) {
+        self.word("ok");
     }
-    let mut at = put_byte(out, start, b' ');
-    let mut i = 0;
-    while i < row.len() {
-        at = put_hex(out, at, row[i]);
-        i += 1;
-    }
-    at
-}
 
-// Puts the count of a list and its numbers.
-pub fn put_list(out: &mut [u8], start: usize, list: &[u32]) -> usize {
-    let mut at = put_number(out, start, list.len() as u64);
-    let mut i = 0;
-    while i < list.len() {
-        at = put_long(out, at, list[i]);
-        i += 1;
+    pub fn refused(&mut self, refusal: Refusal) {
+        self.word("refused");
+        self.word(u16::from(refusal));
     }
-    at
+
+    // `ok`, or `refused` and the refusal's number.
+    pub fn status<T>(&mut self, answered: &Result<T, Refusal>) {
+        match answered {
+            Ok(_) => self.ok(),
+            Err(refusal) => self.refused(*refusal),
+        }
+    }
+
+    // An answer of one number, 0 where it is refused.
+    pub fn number(&mut self, answered: Result<u32, Refusal>) {
+        self.status(&answered);
+        self.word(answered.unwrap_or(0));
+    }
+
+    // A row of bytes in hex, or `-` for none.
+    pub fn row(&mut self, row: &[u8]) {
+        if row.is_empty() {
+            return self.word('-');
+        }
+        self.space();
+        for byte in row {
+            let _ = write!(self.bytes, "{byte:02x}");
+        }
+    }
+
+    // A list's count and its numbers.
+    pub fn list(&mut self, list: &[u32]) {
+        self.word(list.len());
+        for number in list {
+            self.word(*number);
+        }
+    }
+
+    // What the line says is no call.
+    pub fn unknown(&mut self) {
+        self.word("unknown");
+    }
+
+    pub fn end_line(&mut self) {
+        let _ = self.bytes.try_push(b'\n');
+    }
 }

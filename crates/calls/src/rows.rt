@@ -1,14 +1,27 @@
-// Rows of bytes and lists of numbers, read into what the caller lends.
-ghost use Rattle.std.specs.Prelude.{◌≤◌, ◌≡◌, length, take};
+// Rows of bytes and lists of numbers, read into the front of what the caller lends; what does not fit is left out.
+ghost use Rattle.std.specs.Prelude.{length};
 ghost use Rattle.calls.specs.Counts.{IsPrefixLen};
 
-use crate::words;
+use crate::words::Words;
 
-// How much of a lent row was read into, and the place in the line after it.
-#[derive(Clone, Copy)]
-pub struct Row {
-    pub length: usize,
-    pub at: usize,
+// Room for the longest row of a call.
+pub const ROOM: usize = 65_600;
+
+// What a list may hold, and how it is read.
+pub trait Listed: Copy {
+    fn read(words: &mut Words<'_>) -> Self;
+}
+
+impl Listed for u32 {
+    fn read(words: &mut Words<'_>) -> u32 {
+        words.long()
+    }
+}
+
+impl Listed for i32 {
+    fn read(words: &mut Words<'_>) -> i32 {
+        words.signed()
+    }
 }
 
 // The value of a hex digit, in the last four bits.
@@ -19,81 +32,51 @@ fn hex_digit(byte: u8) -> u8 {
     byte % 16
 }
 
-// The byte of two hex digits.
-fn hex_byte(high: u8, low: u8) -> u8 {
-    hex_digit(high) % 16 * 16 + hex_digit(low) % 16
+// Puts one value after the other into the front of what is lent, and answers that front.
+fn filled<T: Copy, F: FnMut() -> Option<T>>(lent: &mut [T], mut next: F) -> &[T]
+    requires { F.IsAlwaysCallable next }
+    ensures { IsPrefixLen (length result.now) lent.old }
+{
+    let mut count = 0;
+    for place in lent.iter_mut() {
+        match next() {
+            Some(value) => *place = value,
+            None => break,
+        }
+        count += 1;
+    }
+    &lent[..count]
 }
 
-// Reads the row of bytes that begins at a place; `-` has none, and what does not fit is left out.
-pub fn read_row(line: &[u8], start: usize, row: &mut [u8]) -> Row
-    ensures { IsPrefixLen result.length row.new }
-{
-    let mut at = start;
-    let mut filled: usize = 0;
-    while filled < row.len() {
-        if at >= line.len() {
-            break;
+impl Words<'_> {
+    // The byte of the next two hex digits.
+    fn hex_byte(&mut self) -> Option<u8> {
+        match self.rest {
+            [high, low, rest @ ..] if *high >= b'0' => {
+                self.rest = rest;
+                Some(hex_digit(*high) << 4 | hex_digit(*low))
+            }
+            _ => None,
         }
-        let high = line[at];
-        if high < b'0' {
-            break;
-        }
-        if at + 1 >= line.len() {
-            break;
-        }
-        row[filled] = hex_byte(high, line[at + 1]);
-        filled += 1;
-        at += 2;
     }
-    Row {
-        length: filled,
-        at: words::after_word(line, at),
-    }
-}
 
-// Reads the numbers that stand after their count; what does not fit is left out.
-pub fn read_list(line: &[u8], start: usize, list: &mut [u32]) -> Row
-    ensures { IsPrefixLen result.length list.new }
-{
-    let count = words::read_number(line, start);
-    let given = count.value as usize;
-    let mut at = count.at;
-    let mut filled: usize = 0;
-    while filled < list.len() {
-        if filled >= given {
-            break;
-        }
-        let read = words::read_long(line, at);
-        list[filled] = read.value;
-        at = read.at;
-        filled += 1;
+    // A row of bytes; `-` has none.
+    pub fn row<'b>(&mut self, lent: &'b mut [u8]) -> &'b [u8]
+        ensures { IsPrefixLen (length result.now) lent.old }
+    {
+        let row = filled(lent, || self.hex_byte());
+        self.word();
+        row
     }
-    Row {
-        length: filled,
-        at: at,
-    }
-}
 
-// Reads signed numbers likewise. `IsPrefixLen` speaks of unsigned ones, so the same is written out for these.
-pub fn read_signed_list(line: &[u8], start: usize, list: &mut [i32]) -> Row
-    ensures { (result.length ≤ length list.new) × (result.length ≡ length (take result.length list.new)) }
-{
-    let count = words::read_number(line, start);
-    let given = count.value as usize;
-    let mut at = count.at;
-    let mut filled: usize = 0;
-    while filled < list.len() {
-        if filled >= given {
-            break;
-        }
-        let read = words::read_signed(line, at);
-        let value = read.value;
-        list[filled] = value;
-        at = read.at;
-        filled += 1;
-    }
-    Row {
-        length: filled,
-        at: at,
+    // Numbers behind their count.
+    pub fn list<'b, T: Listed>(&mut self, lent: &'b mut [T]) -> &'b [T]
+        ensures { IsPrefixLen (length result.now) lent.old }
+    {
+        let mut left = self.number();
+        filled(lent, || {
+            left = left.checked_sub(1)?;
+            Some(T::read(self))
+        })
     }
 }

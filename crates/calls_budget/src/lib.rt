@@ -4,11 +4,10 @@
 mod edits;
 mod numbers;
 
-// Puts the answer to a call, and answers the place after it; 0 where the line is no call of this crate.
-pub fn answer(line: &[u8], out: &mut [u8]) -> usize {
-    let at = numbers::answer(line, out);
-    if at > 0 {
-        return at;
-    }
-    edits::answer(line, out)
+use calls::print::Out;
+use calls::words::Words;
+
+// Answers the call, and says whether it is one of this crate.
+pub fn answer(call: &[u8], words: Words<'_>, out: &mut Out) -> bool {
+    numbers::answer(call, words, out) || edits::answer(call, words, out)
 }

@@ -1,92 +1,73 @@
 // Calls on tasks, interfaces and components.
-use budget::quantity::{Amount, Time};
 use budget::{check, common, common_period, demand, interface, supply, task};
-use calls::{given, print, words};
+use calls::print::Out;
+use calls::words::Words;
 
-fn check_task(line: &[u8], at: usize, out: &mut [u8]) -> usize {
-    let given = given::read_task(line, at);
-    print::put_status(out, task::check_task(given.value))
+fn check_task(words: &mut Words<'_>, out: &mut Out) {
+    let task = words.task();
+    out.status(&task::check_task(task));
 }
 
-fn check_table(line: &[u8], at: usize, out: &mut [u8]) -> usize {
-    let given = given::read_table(line, at);
-    print::put_status(out, task::check_table(given.value))
+fn check_table(words: &mut Words<'_>, out: &mut Out) {
+    let table = words.table();
+    out.status(&task::check_table(table));
 }
 
-fn check_interface(line: &[u8], at: usize, out: &mut [u8]) -> usize {
-    let given = given::read_interface(line, at);
-    print::put_status(out, interface::check_interface(given.value))
+fn check_interface(words: &mut Words<'_>, out: &mut Out) {
+    let interface = words.interface();
+    out.status(&interface::check_interface(interface));
 }
 
-fn check_component(line: &[u8], at: usize, out: &mut [u8]) -> usize {
-    let given = given::read_component(line, at);
-    print::put_status(out, check::check_component(given.value))
+fn check_component(words: &mut Words<'_>, out: &mut Out) {
+    let component = words.component();
+    out.status(&check::check_component(component));
 }
 
-fn dedicated(out: &mut [u8]) -> usize {
-    let answered = interface::dedicated();
-    let at = print::put_answer(out, 0, answered.period.0);
-    let at = print::put_long(out, at, answered.capacity.0);
-    print::put_long(out, at, answered.deadline.0)
+fn dedicated(out: &mut Out) {
+    let dedicated = interface::dedicated();
+    out.ok();
+    out.word(dedicated.period.0);
+    out.word(dedicated.capacity.0);
+    out.word(dedicated.deadline.0);
 }
 
-fn common_divisor(line: &[u8], at: usize, out: &mut [u8]) -> usize {
-    let first = words::read_long(line, at);
-    let second = words::read_long(line, first.at);
-    print::put_answer(out, 0, common::common_divisor(first.value, second.value))
+fn common_divisor(words: &mut Words<'_>, out: &mut Out) {
+    let first = words.long();
+    let second = words.long();
+    out.number(Ok(common::common_divisor(first, second)));
 }
 
-fn common_period(line: &[u8], at: usize, out: &mut [u8]) -> usize {
-    let given = given::read_component(line, at);
-    let answered = common_period::common_period(given.value);
-    print::put_answer(out, answered.refusal, answered.length.0)
+fn common_period(words: &mut Words<'_>, out: &mut Out) {
+    let component = words.component();
+    out.number(common_period::common_period(component).map(|length| length.0));
 }
 
-fn put_amount(out: &mut [u8], answered: Amount) -> usize {
-    print::put_answer(out, answered.refusal, answered.units.0)
+fn demand(words: &mut Words<'_>, out: &mut Out) {
+    let table = words.table();
+    let t = words.time();
+    out.number(demand::demand(table, t).map(|units| units.0));
 }
 
-fn demand(line: &[u8], at: usize, out: &mut [u8]) -> usize {
-    let given = given::read_table(line, at);
-    let t = words::read_long(line, given.at);
-    put_amount(out, demand::demand(given.value, Time(t.value)))
+fn supply(words: &mut Words<'_>, out: &mut Out) {
+    let interface = words.interface();
+    let t = words.time();
+    out.number(supply::supply(interface, t).map(|units| units.0));
 }
 
-fn supply(line: &[u8], at: usize, out: &mut [u8]) -> usize {
-    let given = given::read_interface(line, at);
-    let t = words::read_long(line, given.at);
-    put_amount(out, supply::supply(given.value, Time(t.value)))
-}
-
-// The answer to a call, or 0 where the line is none of these.
-pub(crate) fn answer(line: &[u8], out: &mut [u8]) -> usize {
-    let at = words::after_word(line, 0);
-    if words::is_word(line, b"check_task") {
-        return check_task(line, at, out);
+// Answers the call, and says whether it is one of these.
+pub(crate) fn answer(call: &[u8], mut words: Words<'_>, out: &mut Out) -> bool {
+    let words = &mut words;
+    match call {
+        b"check_task" => check_task(words, out),
+        b"check_table" => check_table(words, out),
+        b"check_interface" => check_interface(words, out),
+        b"check_component" => check_component(words, out),
+        b"dedicated" => dedicated(out),
+        b"common_divisor" => common_divisor(words, out),
+        b"common_period" => common_period(words, out),
+        b"demand" => demand(words, out),
+        b"supply" => supply(words, out),
+        _ => return false,
     }
-    if words::is_word(line, b"check_table") {
-        return check_table(line, at, out);
-    }
-    if words::is_word(line, b"check_interface") {
-        return check_interface(line, at, out);
-    }
-    if words::is_word(line, b"check_component") {
-        return check_component(line, at, out);
-    }
-    if words::is_word(line, b"dedicated") {
-        return dedicated(out);
-    }
-    if words::is_word(line, b"common_divisor") {
-        return common_divisor(line, at, out);
-    }
-    if words::is_word(line, b"common_period") {
-        return common_period(line, at, out);
-    }
-    if words::is_word(line, b"demand") {
-        return demand(line, at, out);
-    }
-    if words::is_word(line, b"supply") {
-        return supply(line, at, out);
-    }
-    0
+    true
 }

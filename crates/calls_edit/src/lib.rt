@@ -5,31 +5,31 @@
 mod edits;
 mod shown;
 
-use calls::shown::put_edited;
-use calls::{rows, words};
+use calls::print::Out;
+use calls::rows::ROOM;
+use calls::words::Words;
 use calls_sheet::shown::put_reading;
 use transfer::read;
 
-fn on_sheet(line: &[u8], sheet: &[u8], start: usize, out: &mut [u8]) -> usize {
-    let place = words::read_number(line, start);
-    let reading = read::read_component(sheet, place.value as usize);
-    if reading.refusal != 0 {
-        return put_reading(out, reading);
+fn edit(words: &mut Words<'_>, out: &mut Out) {
+    let mut bytes = [0u8; ROOM];
+    let sheet = words.row(&mut bytes);
+    let place = words.place();
+    match read::read_component(sheet, place) {
+        Ok(component) => match edits::edit_all(words, component) {
+            Ok(edited) => shown::put_asked(out, edited),
+            Err(refusal) => out.edited(Err(refusal)),
+        },
+        Err(fault) => put_reading(out, Err(fault)),
     }
-    let edited = edits::edit_all(line, place.at, reading.component);
-    if edited.refusal != 0 {
-        return put_edited(out, edited);
-    }
-    shown::put_asked(out, edited.component)
 }
 
-// Puts the answer to a call, and answers the place after it; 0 where the line is no call of this crate.
-pub fn answer(line: &[u8], out: &mut [u8]) -> usize {
-    if !words::is_word(line, b"edit") {
-        return 0;
+// Answers the call, and says whether it is one of this crate.
+pub fn answer(call: &[u8], mut words: Words<'_>, out: &mut Out) -> bool {
+    let words = &mut words;
+    match call {
+        b"edit" => edit(words, out),
+        _ => return false,
     }
-    let mut bytes = [0u8; 65600];
-    let row = rows::read_row(line, words::after_word(line, 0), &mut bytes);
-    let length = row.length;
-    on_sheet(line, &bytes[..length], row.at, out)
+    true
 }

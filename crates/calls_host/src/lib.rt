@@ -2,77 +2,63 @@
 // much of the lent one as the call says, filled with a5.
 #![tactic(auto)]
 
-use calls::{print, rows, words};
+use calls::print::Out;
+use calls::rows::ROOM;
+use calls::words::Words;
 
-fn put_reply(out: &mut [u8], returned: u32, reply: &[u8]) -> usize {
-    let at = print::put_digits(out, 0, returned as u64);
-    print::put_row(out, at, reply)
-}
-
-fn host(line: &[u8], sheet: &[u8], start: usize, buffer: &mut [u8], out: &mut [u8]) -> usize {
-    let place = words::read_number(line, start);
-    let length = words::read_number(line, place.at);
-    let at = words::read_number(line, length.at);
-    let end = length.value as usize;
-    if end > buffer.len() {
-        return 0;
-    }
-    let reply = &mut buffer[0..end];
-    let returned = jougsilver::jougsilver_judge(
-        sheet,
-        place.value as usize,
-        reply,
-        at.value as usize,
-    );
-    put_reply(out, returned, reply)
-}
-
-fn host_check(line: &[u8], sheet: &[u8], start: usize, buffer: &mut [u8], out: &mut [u8]) -> usize {
-    let length = words::read_number(line, start);
-    let at = words::read_number(line, length.at);
-    let end = length.value as usize;
-    if end > buffer.len() {
-        return 0;
-    }
-    let reply = &mut buffer[0..end];
-    let returned = jougsilver::jougsilver_check(sheet, reply, at.value as usize);
-    put_reply(out, returned, reply)
-}
-
-fn host_all(line: &[u8], sheet: &[u8], start: usize, buffer: &mut [u8], out: &mut [u8]) -> usize {
-    let length = words::read_number(line, start);
-    let at = words::read_number(line, length.at);
-    let end = length.value as usize;
-    if end > buffer.len() {
-        return 0;
-    }
-    let reply = &mut buffer[0..end];
-    let returned = jougsilver::jougsilver_judge_all(sheet, reply, at.value as usize);
-    put_reply(out, returned, reply)
-}
-
-fn answer_into(line: &[u8], sheet: &[u8], at: usize, buffer: &mut [u8], out: &mut [u8]) -> usize {
-    if words::is_word(line, b"host") {
-        return host(line, sheet, at, buffer, out);
-    }
-    if words::is_word(line, b"host_check") {
-        return host_check(line, sheet, at, buffer, out);
-    }
-    if words::is_word(line, b"host_all") {
-        return host_all(line, sheet, at, buffer, out);
-    }
-    0
-}
-
-fn on_sheet(line: &[u8], sheet: &[u8], at: usize, out: &mut [u8]) -> usize {
+// Calls with the buffer and the place in it that the call says, and shows what is returned and the buffer.
+fn called<F: FnOnce(&mut [u8], usize) -> u32>(words: &mut Words<'_>, out: &mut Out, call: F)
+    requires { F.IsAlwaysCallable call }
+{
     let mut buffer = [0xa5u8; 4096];
-    answer_into(line, sheet, at, &mut buffer, out)
+    match buffer.get_mut(..words.place()) {
+        Some(reply) => {
+            out.word(call(reply, words.place()));
+            out.row(reply);
+        }
+        None => out.unknown(),
+    }
 }
 
-// Puts the answer to a call, and answers the place after it; 0 where the line is no call of this crate. The first word after each name is a sheet.
-pub fn answer(line: &[u8], out: &mut [u8]) -> usize {
-    let mut bytes = [0u8; 65600];
-    let row = rows::read_row(line, words::after_word(line, 0), &mut bytes);
-    let length = row.length;
-    on_sheet(line, &bytes[..length], row.at, out)
+fn host(words: &mut Words<'_>, out: &mut Out) {
+    let mut bytes = [0u8; ROOM];
+    let sheet = words.row(&mut bytes);
+    let place = words.place();
+    called(
+        words,
+        out,
+        |reply, at| jougsilver::jougsilver_judge(sheet, place, reply, at),
+    );
+}
+
+fn host_check(words: &mut Words<'_>, out: &mut Out) {
+    let mut bytes = [0u8; ROOM];
+    let sheet = words.row(&mut bytes);
+    called(
+        words,
+        out,
+        |reply, at| jougsilver::jougsilver_check(sheet, reply, at),
+    );
+}
+
+fn host_all(words: &mut Words<'_>, out: &mut Out) {
+    let mut bytes = [0u8; ROOM];
+    let sheet = words.row(&mut bytes);
+    called(
+        words,
+        out,
+        |reply, at| jougsilver::jougsilver_judge_all(sheet, reply, at),
+    );
+}
+
+// Answers the call, and says whether it is one of this crate.
+pub fn answer(call: &[u8], mut words: Words<'_>, out: &mut Out) -> bool {
+    let words = &mut words;
+    match call {
+        b"host" => host(words, out),
+        b"host_check" => host_check(words, out),
+        b"host_all" => host_all(words, out),
+        _ => return false,
+    }
+    true
 }

@@ -1,133 +1,84 @@
 // The calls of the crates `trace` and `run` (docs/CALLS.md), each answered by a function of its own.
 #![tactic(auto)]
 
-use budget::quantity::Time;
-use budget::task::Table;
-use calls::{given, print, rows, words};
-use run::walk;
-use trace::legal;
+use budget::quantity::Units;
+use budget::refusal::Refusal;
+use calls::print::Out;
+use calls::rows::ROOM;
+use calls::words::Words;
+use run::jobs::Jobs;
+use run::walk::{Walked, walk as walk_jobs};
+use trace::legal::is_legal;
 
-fn put_legality(out: &mut [u8], answered: legal::Legality) -> usize {
-    let at = print::put_status(out, answered.refusal);
-    if answered.legal {
-        return print::put_text(out, at, b" yes");
-    }
-    print::put_text(out, at, b" no")
+fn legal(words: &mut Words<'_>, out: &mut Out) {
+    let interface = words.interface();
+    let offset = words.time();
+    let mut bytes = [0u8; ROOM];
+    let trace = words.row(&mut bytes);
+    let answered = is_legal(interface, offset, trace);
+    out.status(&answered);
+    out.word(if answered.unwrap_or(false) {
+        "yes"
+    } else {
+        "no"
+    });
 }
 
-fn legal(line: &[u8], at: usize, out: &mut [u8]) -> usize {
-    let given = given::read_interface(line, at);
-    let offset = words::read_long(line, given.at);
-    let mut bytes = [0u8; 65600];
-    let row = rows::read_row(line, offset.at, &mut bytes);
-    let length = row.length;
-    put_legality(
-        out,
-        legal::is_legal(given.value, Time(offset.value), &bytes[..length]),
-    )
-}
+// What a walk shows where it is refused.
+const NOT_WALKED: Walked = Walked {
+    miss: None,
+    served: Units(0),
+    idle: Units(0),
+};
 
-fn put_miss(out: &mut [u8], start: usize, miss: walk::Miss) -> usize {
-    match miss {
-        walk::Miss::None => print::put_text(out, start, b" none"),
-        walk::Miss::At(instant, task) => {
-            let at = print::put_said(out, start, b" miss", instant.0);
-            print::put_long(out, at, task)
+fn put_walked(out: &mut Out, answered: Result<Walked, Refusal>, left: &[u32]) {
+    out.status(&answered);
+    let walked = answered.unwrap_or(NOT_WALKED);
+    match walked.miss {
+        Some(miss) => {
+            out.word("miss");
+            out.word(miss.at.0);
+            out.word(miss.task);
         }
+        None => out.word("none"),
     }
+    out.word(walked.served.0);
+    out.word(walked.idle.0);
+    out.list(left);
 }
 
-fn put_walked(out: &mut [u8], answered: walk::Walked, left: &[u32]) -> usize {
-    let miss = answered.miss;
-    let at = print::put_status(out, answered.refusal);
-    let at = put_miss(out, at, miss);
-    let at = print::put_long(out, at, answered.served.0);
-    let at = print::put_long(out, at, answered.idle.0);
-    print::put_list(out, at, left)
-}
-
-// Walks with so much of the work-left buffer as the call says.
-fn walk_left(
-    table: Table,
-    tasks: &[u32],
-    releases: &[i32],
-    ready: &[u32],
-    works: &[u32],
-    trace: &[u8],
-    length: u64,
-    out: &mut [u8],
-) -> usize {
-    let mut left = [77u32; 2048];
-    walk_part(
-        table,
-        tasks,
-        releases,
-        ready,
-        works,
-        trace,
-        &mut left,
-        length as usize,
-        out,
-    )
-}
-
-fn walk_part(
-    table: Table,
-    tasks: &[u32],
-    releases: &[i32],
-    ready: &[u32],
-    works: &[u32],
-    trace: &[u8],
-    left: &mut [u32],
-    length: usize,
-    out: &mut [u8],
-) -> usize {
-    if length > left.len() {
-        return 0;
-    }
-    let part = &mut left[0..length];
-    let answered = walk::walk(table, tasks, releases, ready, works, trace, part);
-    put_walked(out, answered, part)
-}
-
-fn walk(line: &[u8], at: usize, out: &mut [u8]) -> usize {
-    let given = given::read_table(line, at);
+// A walk has as much of the work-left buffer as the call says.
+fn walk(words: &mut Words<'_>, out: &mut Out) {
+    let table = words.table();
     let mut tasks = [0u32; 2048];
-    let numbered = rows::read_list(line, given.at, &mut tasks);
-    let tasks_end = numbered.length;
     let mut releases = [0i32; 2048];
-    let released = rows::read_signed_list(line, numbered.at, &mut releases);
-    let releases_end = released.length;
     let mut ready = [0u32; 2048];
-    let readied = rows::read_list(line, released.at, &mut ready);
-    let ready_end = readied.length;
     let mut works = [0u32; 2048];
-    let worked = rows::read_list(line, readied.at, &mut works);
-    let works_end = worked.length;
-    let mut bytes = [0u8; 65600];
-    let row = rows::read_row(line, worked.at, &mut bytes);
-    let trace_end = row.length;
-    let length = words::read_number(line, row.at);
-    walk_left(
-        given.value,
-        &tasks[..tasks_end],
-        &releases[..releases_end],
-        &ready[..ready_end],
-        &works[..works_end],
-        &bytes[..trace_end],
-        length.value,
-        out,
-    )
+    let jobs = Jobs {
+        tasks: words.list(&mut tasks),
+        releases: words.list(&mut releases),
+        ready: words.list(&mut ready),
+        works: words.list(&mut works),
+    };
+    let mut bytes = [0u8; ROOM];
+    let trace = words.row(&mut bytes);
+    let mut left = [77u32; 2048];
+    match left.get_mut(..words.place()) {
+        Some(left) => {
+            let answered = walk_jobs(table, jobs, trace, left);
+            put_walked(out, answered, left);
+        }
+        None => out.unknown(),
+    }
 }
 
-// Puts the answer to a call, and answers the place after it; 0 where the line is no call of this crate.
-pub fn answer(line: &[u8], out: &mut [u8]) -> usize {
-    let at = words::after_word(line, 0);
-    if words::is_word(line, b"legal") {
-        return legal(line, at, out);
+// Answers the call, and says whether it is one of this crate.
+pub fn answer(call: &[u8], mut words: Words<'_>, out: &mut Out) -> bool {
+    let words = &mut words;
+    match call {
+        b"legal" => legal(words, out),
+        b"walk" => walk(words, out),
+        _ => return false,
     }
-    if words::is_word(line, b"walk") {
-        return walk(line, at, out);
-    }
-    0
+    true
 }

@@ -3,18 +3,12 @@
 
 mod sheets;
 pub mod shown;
+mod writers;
 
-use calls::{rows, words};
+use calls::print::Out;
+use calls::words::Words;
 
-// Puts the answer to a call, and answers the place after it; 0 where the line is no call of this crate. Of every call but the
-// writers' the first word after the name is a sheet.
-pub fn answer(line: &[u8], out: &mut [u8]) -> usize {
-    let put = sheets::writers(line, out);
-    if put > 0 {
-        return put;
-    }
-    let mut bytes = [0u8; 65600];
-    let row = rows::read_row(line, words::after_word(line, 0), &mut bytes);
-    let length = row.length;
-    sheets::on_sheet(line, &bytes[..length], row.at, out)
+// Answers the call, and says whether it is one of this crate.
+pub fn answer(call: &[u8], words: Words<'_>, out: &mut Out) -> bool {
+    sheets::answer(call, words, out) || writers::answer(call, words, out)
 }

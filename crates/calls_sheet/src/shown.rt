@@ -1,19 +1,24 @@
 // What an answer on a sheet shows.
-use calls::{print, shown};
-use transfer::read::Reading;
+use budget::component::{Component, refused};
+use calls::print::Out;
+use sheet::fault::Fault;
 
-// Puts `ok`, or `refused` with its number and place.
-pub fn put_fault(out: &mut [u8], refusal: u16, place: usize) -> usize {
-    let at = print::put_status(out, refusal);
-    if refusal == 0 {
-        return at;
-    }
-    print::put_number(out, at, place as u64)
+// `refused` with its number and place.
+pub fn put_fault(out: &mut Out, fault: Fault) {
+    out.refused(fault.refusal);
+    out.word(fault.place);
 }
 
-// The answer of a reading.
-pub fn put_reading(out: &mut [u8], answered: Reading) -> usize {
-    let component = answered.component;
-    let at = put_fault(out, answered.refusal, answered.place);
-    shown::put_component(out, at, component)
+// `ok`, or `refused` with its number and place.
+pub fn put_status<T>(out: &mut Out, answered: &Result<T, Fault>) {
+    match answered {
+        Ok(_) => out.ok(),
+        Err(fault) => put_fault(out, *fault),
+    }
+}
+
+// The answer of a reading; one that is refused shows the component that stands for none.
+pub fn put_reading(out: &mut Out, answered: Result<Component, Fault>) {
+    put_status(out, &answered);
+    out.component(answered.unwrap_or(refused()));
 }

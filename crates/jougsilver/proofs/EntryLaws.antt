@@ -1,24 +1,22 @@
 -- The bytes of entries: how many they are, and that they stand one behind the other as they are put.
-use Prim.Native.Nat.{ℕ, zero, suc, ◌+◌, ◌*◌, ◌^◌, ◌≤◌, ◌<◌}
+use Prim.Native.Nat.{ℕ, zero, suc, ◌+◌, ◌*◌, ◌≤◌}
 use native.Mathlib.Numerals.{add-one}
 use native.Mathlib.Omega.{arith}
 use mathlib.Core.Path.{◌≡◌, refl, sym, ap, ap₂, ◌∙◌}
-use mathlib.Core.List.{List, [], ◌∷◌, ◌++◌}
+use mathlib.Core.List.{List, [], ◌∷◌, ◌++◌, append-nil}
 use lib.Dec.{eqb}
-use lib.ListN.{length, length-append, length-replicate}
-use lib.Seq.{sets, length-sets}
+use lib.ListN.{length, replicate, length-append, length-replicate, drop_of_length-le}
+use lib.Seq.{sets, sets-eq, length-sets}
+use borrow.Rule.Slice.PartMut.{put_mid}
 use borrow.Author.Tests.{eq-eqb, ne_eqb}
-use mir.Syntax.{w64}
-use mir.Val.{Fits}
 use Rattle.jougsilver.specs.Answer.{refusal_of, reply_of, reply_on}
 use Rattle.jougsilver.specs.Host.{rest_on, entry_on, entry_at, entries_to}
 use Rattle.record.specs.declared.reply.Reply.{Reply}
-use Rattle.record.specs.Field.{encode}
 use Rattle.record.specs.Reply.{reply_row, reply_bytes}
 use Rattle.record.specs.Writing.{buffered, numbers_row, numbers_bytes, room_refusal}
 use Rattle.record.proofs.Cases.{cases}
 use Rattle.record.proofs.RowLaws.{row_length_lem}
-use Rattle.record.proofs.StoreLaws.{sets_append, written_bytes}
+use Rattle.record.proofs.StoreLaws.{part_stored, sets_append, written_bytes}
 use Rattle.sheet.specs.Contents.{edge_of}
 use Rattle.transfer.specs.Reading.{reading}
 use Rattle.tree.specs.numbers.Outcome.{Outcome}
@@ -54,53 +52,53 @@ pub stored_all : (l : List ℕ) (at : ℕ) (bytes : List ℕ) (size : ℕ) → l
 stored_all l at bytes size n h {new} e =
     written_bytes l at bytes (omega arith) new (e ∙ ap (λ (m : ℕ). buffered (room_refusal (length l) at m) l at bytes) (sym n))
 
-module _ (l : List ℕ) (at number : ℕ) (o : Outcome) (room : at + 24 ≤ length l) where
+-- bytes stored over all of a list are the list
+sets_whole : (l bytes : List ℕ) → length bytes ≡ length l → sets l 0 bytes ≡ bytes
+sets_whole l bytes e = sets-eq bytes l 0 (omega arith) ∙ rw (drop_of_length-le l {i = 0 + length bytes} (omega arith), append-nil)
+
+-- the numbers at an entry's front
+module _ (l : List ℕ) (number byte : ℕ) (o : Outcome) (long : length l ≡ 36) {half : List ℕ}
+    (e : half ≡ buffered (room_refusal (length l) 0 (length (numbers_bytes (refusal_of o) number byte))) l 0 (numbers_bytes (refusal_of o) number byte)) where
+  front : half ≡ sets l 0 (numbers_bytes (refusal_of o) number byte)
+  front = stored_all l 0 (numbers_bytes (refusal_of o) number byte) 12 (numbers_length _ _ _) (omega arith) (rw (numbers_length (refusal_of o) number byte) at e)
+
+  pub half_long : length half ≡ 36
+  half_long = ap length front ∙ length-sets l 0 (numbers_bytes (refusal_of o) number byte) ∙ long
+
+  -- and what is left behind them
+  whole : {new : List ℕ} → new ≡ sets half 12 (rest_on number o) → new ≡ entry_on number o byte
+  unfolding entry_on
+  whole {new} f =
+      let numbers = numbers_bytes (refusal_of o) number byte in
+      let rest = rest_on number o in
+      let n : 0 + length numbers ≡ 12 = omega (arith, numbers_length (refusal_of o) number byte) in
+      f
+      ∙ (ap₂ (λ (xs : List ℕ) (m : ℕ). sets xs m rest) front (sym n)
+      ∙ (sym (sets_append l 0 numbers rest) ∙ sets_whole l (numbers ++ rest) (entry_length number o byte ∙ sym long)))
+
   -- a reply
-  pub rest_reply : refusal_of o ≡ 0 → {new : List ℕ} → new ≡ buffered (room_refusal (length l) at 24) l at (reply_on number o) → new ≡ sets l at (rest_on number o)
+  pub reply_put : refusal_of o ≡ 0 → {new : List ℕ} → new ≡ buffered (room_refusal (length half) 12 24) half 12 (reply_on number o) → new ≡ entry_on number o byte
   unfolding rest_on reply_on
-  rest_reply z e = rw (eq-eqb (refusal_of o) 0 z) (stored_all l at (reply_bytes (reply_of number o)) 24 (reply_length (reply_of number o)) room e)
+  reply_put z e =
+      whole (rw (eq-eqb (refusal_of o) 0 z) (stored_all half 12 (reply_bytes (reply_of number o)) 24 (reply_length (reply_of number o)) (omega (arith, half_long)) e))
 
-  -- or zeros, twelve and twelve
-  pub rest_zeros : (refusal_of o ≡ 0 → ⊥) → {half new : List ℕ}
-      → half ≡ buffered (room_refusal (length l) at (length (numbers_bytes 0 0 0))) l at (numbers_bytes 0 0 0)
-      → new ≡ buffered (room_refusal (length half) (at + 12) (length (numbers_bytes 0 0 0))) half (at + 12) (numbers_bytes 0 0 0)
-      → new ≡ sets l at (rest_on number o)
-  unfolding rest_on numbers_bytes encode
-  rest_zeros z {half} {new} e f =
-      let zeros = numbers_bytes 0 0 0 in
-      let first : half ≡ sets l at zeros = stored_all l at zeros 12 refl (omega arith) e in
-      let long : length half ≡ length l = ap length first ∙ length-sets l at zeros in
-      let second : new ≡ sets half (at + 12) zeros = stored_all half (at + 12) zeros 12 refl (omega arith) f in
-      rw (ne_eqb (refusal_of o) 0 z) (second ∙ (ap (λ (xs : List ℕ). sets xs (at + 12) zeros) first ∙ sym (sets_append l at zeros zeros)))
-
--- an entry is its numbers and then what is left
-pub entry_put : (l : List ℕ) (at number byte : ℕ) (o : Outcome) → at + 36 ≤ length l → {half new : List ℕ}
-    → half ≡ buffered (room_refusal (length l) at (length (numbers_bytes (refusal_of o) number byte))) l at (numbers_bytes (refusal_of o) number byte)
-    → new ≡ sets half (at + 12) (rest_on number o) → new ≡ sets l at (entry_on number o byte)
-unfolding entry_on
-entry_put l at number byte o room {half} {new} e f =
-    let numbers = numbers_bytes (refusal_of o) number byte in
-    let n : length numbers ≡ 12 = numbers_length (refusal_of o) number byte in
-    f
-    ∙ (ap₂ (λ (xs : List ℕ) (m : ℕ). sets xs (at + m) (rest_on number o)) (stored_all l at numbers (length numbers) refl (omega arith) e) (sym n)
-    ∙ sym (sets_append l at numbers (rest_on number o)))
+  -- or zeros
+  pub zeros_put : (refusal_of o ≡ 0 → ⊥) → {zeros : List ℕ} (k j : ℕ) → k ≡ 24 → j ≡ 24 → zeros ≡ replicate j 0 → put_mid 12 k half zeros ≡ entry_on number o byte
+  unfolding rest_on
+  zeros_put z {zeros} k j n m e =
+      whole (rw (ne_eqb (refusal_of o) 0 z) (rw (e, m) (part_stored half 12 k (replicate 24 0) (omega arith) (omega (arith, half_long)))))
 
 -- an entry behind those of the first k components
-pub one_more_entry : (s l : List ℕ) (at k : ℕ) {now new : List ℕ} {number byte : ℕ} {o : Outcome} → now ≡ sets l at (entries_to s k)
-    → number ≡ (reading s k).component.number → o ≡ outcome_at s k → byte ≡ edge_of s k
-    → new ≡ sets now (at + 36 * k) (entry_on number o byte) → new ≡ sets l at (entries_to s (k + 1))
+pub one_more_entry : (s l : List ℕ) (k m : ℕ) {now new : List ℕ} {number byte : ℕ} {o : Outcome} → now ≡ sets l 0 (entries_to s k)
+    → number ≡ (reading s k).component.number → o ≡ outcome_at s k → byte ≡ edge_of s k → m ≡ 36 → 36 * k + 36 ≤ length l
+    → new ≡ entry_on number o byte → put_mid (36 * k) m now new ≡ sets l 0 (entries_to s (k + 1))
 unfolding entries_to
-one_more_entry s l at k {now} {new} {number} {byte} {o} e is judged edge f =
+one_more_entry s l k m {now} {new} {number} {byte} {o} e is judged edge n room f =
     let next : entries_to s k ++ entry_on number o byte ≡ entries_to s (k + 1) = rw (is, judged, edge, add-one) in
-    f
-    ∙ (ap₂ (λ (xs : List ℕ) (m : ℕ). sets xs (at + m) (entry_on number o byte)) e (sym (entries_length s k))
-    ∙ (sym (sets_append l at (entries_to s k) (entry_on number o byte))
-    ∙ ap (λ (xs : List ℕ). sets l at xs) next))
-
--- the place of an entry is a number, and there is room for the entry
-pub entry_place : (at k count n : ℕ) → at + 36 * count ≤ n → k < count → n < 2 ^ 64 → Fits w64 (at + 36 * k)
-entry_place at k count n h l m = record { fits = omega arith }
-
-pub entry_room : (s l : List ℕ) (at count k : ℕ) (now : List ℕ) → now ≡ sets l at (entries_to s k) → at + 36 * count ≤ length l → k < count
-    → at + 36 * k + 36 ≤ length now
-entry_room s l at count k now e h m = omega (arith, ap length e ∙ length-sets l at (entries_to s k))
+    let size : length (entry_on number o byte) ≡ 36 = entry_length number o byte in
+    let long : length now ≡ length l = ap length e ∙ length-sets l 0 (entries_to s k) in
+    let here : put_mid (36 * k) m now new ≡ sets now (36 * k) (entry_on number o byte) = rw f (part_stored now (36 * k) m (entry_on number o byte) (omega arith) (omega arith)) in
+    here
+    ∙ (ap₂ (λ (xs : List ℕ) (i : ℕ). sets xs i (entry_on number o byte)) e (omega (arith, entries_length s k))
+    ∙ (sym (sets_append l 0 (entries_to s k) (entry_on number o byte))
+    ∙ ap (λ (xs : List ℕ). sets l 0 xs) next))

@@ -6,7 +6,7 @@ use mathlib.Core.Bool.{true, cond}
 use mathlib.Core.List.{List, [], ◌∷◌}
 use lib.Dec.{eqb}
 use lib.ListN.{length, get_or, take}
-use lib.Seq.{take-suc, take-length, length-take-le, get_or-take}
+use lib.Seq.{take-suc, take-length}
 use borrow.Author.Tests.{eq-eqb, ne_eqb}
 use native.Mathlib.Decide.{ℕ_discrete}
 use native.Mathlib.Nat.{add-zero, suc-mul, le_trans, le_of_eq, mul-le-mul, lt_of_lt_of_le}
@@ -18,22 +18,17 @@ use Rattle.budget.specs.Limits.{limit, most_tasks}
 use Rattle.budget.specs.Task.{T, C, no_task, span, valid_tasks}
 use Rattle.budget.proofs.DemandLaws.{jobs_next_after, jobs_same_until, jobs_at_next, jobs_zero, demand_append, demand_zero, demand_bound}
 use Rattle.budget.proofs.Valid.{ValidTask, valid_at}
-use Rattle.judge.specs.declared.steps.Row.{Row}
 use Rattle.judge.specs.declared.steps.Step.{Step}
 use Rattle.judge.specs.declared.steps.Steps.{Steps}
-use Rattle.judge.specs.inner.Steps.{Begun, Steppable, Stepped, due_work, no_row, passed, rows_of}
+use Rattle.judge.specs.inner.Steps.{Begun, Passed, Steppable, Stepped, due_work, passed}
 
 -- the first deadline of a task after an instant
 abbrev pub next_deadline : Task → ℕ → ℕ
 next_deadline k p = span k + jobs_by k p * T k
 
--- a task's row once the instant p has passed
-abbrev row_after : Task → ℕ → Row
-row_after k p = record { period = T k; work = C k; due = next_deadline k p }
-
--- the rows of these tasks once the instant p has passed
-abbrev pub RowsAfter : List Task → List Row → ℕ → Type 0
-RowsAfter ks rows p = (j : ℕ) → j < length ks → get_or rows j no_row ≡ row_after (get_or ks j no_task) p
+-- the next deadlines of these tasks once the instant p has passed
+abbrev pub Due : List Task → List ℕ → ℕ → Type 0
+Due ks due p = (j : ℕ) → j < length ks → get_or due j 0 ≡ next_deadline (get_or ks j no_task) p
 
 -- one instant later a task has one job more if its next deadline is there, and otherwise as many
 abbrev pub Rises : Task → ℕ → Type 0
@@ -51,16 +46,11 @@ one_due : (k : Task) (p : ℕ) → Rises k p → jobs_by k (suc p) * C k ≡ job
 one_due k p (inl r) = rw (eq-eqb (next_deadline k p) (suc p) r.0, r.1) (suc-mul (jobs_by k p) (C k))
 one_due k p (inr r) = rw (ne_eqb (next_deadline k p) (suc p) r.0, r.1) (sym (add-zero (jobs_by k p * C k)))
 
--- a row once the instant has passed has the next deadline after it
-one_passed : (k : Task) (p : ℕ) → Rises k p → passed (suc p) (row_after k p) ≡ row_after k (suc p)
+-- a next deadline once the instant has passed is the next one after it
+one_passed : (k : Task) (p : ℕ) → Rises k p → passed (suc p) (T k) (next_deadline k p) ≡ next_deadline k (suc p)
 unfolding passed
-one_passed k p (inl r) =
-    let due : next_deadline k p + T k ≡ next_deadline k (suc p)
-    = omega (arith, suc-mul (jobs_by k p) (T k), ap (λ (n : ℕ). n * T k) r.1) in
-    rw (eq-eqb (next_deadline k p) (suc p) r.0) (ap (λ (x : ℕ). record { period = T k; work = C k; due = x }) due)
-one_passed k p (inr r) =
-    rw (ne_eqb (next_deadline k p) (suc p) r.0)
-    (ap (λ (n : ℕ). record { period = T k; work = C k; due = span k + n * T k }) (sym r.1))
+one_passed k p (inl r) = rw (eq-eqb (next_deadline k p) (suc p) r.0) (omega (arith, suc-mul (jobs_by k p) (T k), ap (λ (n : ℕ). n * T k) r.1))
+one_passed k p (inr r) = rw (ne_eqb (next_deadline k p) (suc p) r.0) (ap (λ (n : ℕ). span k + n * T k) (sym r.1))
 
 -- demand depends on the numbers of jobs alone
 demand_same : (ks : List Task) (a b : ℕ) → ((j : ℕ) → j < length ks → jobs_by (get_or ks j no_task) a ≡ jobs_by (get_or ks j no_task) b) → demand ks a ≡ demand ks b
@@ -77,21 +67,21 @@ demand_none : (t : ℕ) → demand [] t ≡ 0
 unfolding demand
 demand_none t = refl
 
-due_none : (rows : List Row) (at : ℕ) → due_work rows at 0 ≡ 0
+due_none : (ks : List Task) (due : List ℕ) (at : ℕ) → due_work ks due at 0 ≡ 0
 unfolding due_work
-due_none rows at = refl
+due_none ks due at = refl
 
-due_more : (rows : List Row) (at n : ℕ) → due_work rows at (suc n) ≡ due_work rows at n + cond (eqb (get_or rows n no_row).due at) (get_or rows n no_row).work 0
+due_more : (ks : List Task) (due : List ℕ) (at n : ℕ) → due_work ks due at (suc n) ≡ due_work ks due at n + cond (eqb (get_or due n 0) at) (C (get_or ks n no_task)) 0
 unfolding due_work
-due_more rows at n = refl
+due_more ks due at n = refl
 
--- what a walk over these tasks carries to its next instant: their rows and the demand of the instant before it
+-- what a walk over these tasks carries to its next instant: their next deadlines and the demand of the instant before it
 pub record Carried (ks : List Task) (s : Steps) : Type 0 where
   pub before : ℕ
   pub is : s.at ≡ suc before
-  pub count : s.count ≡ length ks
-  pub whole : length (rows_of s) ≡ s.count
-  pub rows : RowsAfter ks (rows_of s) before
+  pub tasks : s.tasks.now ≡ ks
+  pub long : length s.due ≡ most_tasks
+  pub due : Due ks s.due before
   pub known : s.demand ≡ demand ks before
 
 -- what passing the instant after p tells
@@ -107,23 +97,22 @@ pub record Moved (ks : List Task) (p : ℕ) (r : Steps) (step : Step) : Type 0 w
 
 module _ (ks : List Task) (v : valid_tasks ks ≡ true) where
   -- no job falls due before the first of the next deadlines
-  jobs_still : (rows : List Row) (p u : ℕ) → RowsAfter ks rows p → p ≤ u → ((j : ℕ) → j < length ks → u < (get_or rows j no_row).due) → (j : ℕ) → j < length ks
+  jobs_still : (due : List ℕ) (p u : ℕ) → Due ks due p → p ≤ u → ((j : ℕ) → j < length ks → u < get_or due j 0) → (j : ℕ) → j < length ks
       → jobs_by (get_or ks j no_task) u ≡ jobs_by (get_or ks j no_task) p
-  jobs_still rows p u d h below j l = jobs_same_until _ (valid_at ks v j l) p u h (subst (λ (r : Row). u < r.due) (d j l) (below j l))
+  jobs_still due p u d h below j l = jobs_same_until _ (valid_at ks v j l) p u h (subst (λ (x : ℕ). u < x) (d j l) (below j l))
 
-  demand_still : (rows : List Row) (p u : ℕ) → RowsAfter ks rows p → p ≤ u → ((j : ℕ) → j < length ks → u < (get_or rows j no_row).due) → demand ks u ≡ demand ks p
-  demand_still rows p u d h below = demand_same ks u p (jobs_still rows p u d h below)
+  demand_still : (due : List ℕ) (p u : ℕ) → Due ks due p → p ≤ u → ((j : ℕ) → j < length ks → u < get_or due j 0) → demand ks u ≡ demand ks p
+  demand_still due p u d h below = demand_same ks u p (jobs_still due p u d h below)
 
-  rows_still : (rows : List Row) (p u : ℕ) → RowsAfter ks rows p → p ≤ u → ((j : ℕ) → j < length ks → u < (get_or rows j no_row).due) → RowsAfter ks rows u
-  rows_still rows p u d h below j l =
-      let k = get_or ks j no_task in
-      d j l ∙ ap (λ (n : ℕ). record { period = T k; work = C k; due = span k + n * T k }) (sym (jobs_still rows p u d h below j l))
+  due_still : (due : List ℕ) (p u : ℕ) → Due ks due p → p ≤ u → ((j : ℕ) → j < length ks → u < get_or due j 0) → Due ks due u
+  due_still due p u d h below j l =
+      d j l ∙ ap (λ (n : ℕ). span (get_or ks j no_task) + n * T (get_or ks j no_task)) (sym (jobs_still due p u d h below j l))
 
   -- the first n tasks of the table: their demand at the next instant is that of now and the work due there
-  demand_first : (rows : List Row) (p : ℕ) → RowsAfter ks rows p → (n : ℕ) → n ≤ length ks
-      → demand (take n ks) (suc p) ≡ demand (take n ks) p + due_work rows (suc p) n
-  demand_first rows p d zero h = omega (arith, demand_none (suc p), demand_none p, due_none rows (suc p))
-  demand_first rows p d (suc n) h =
+  demand_first : (due : List ℕ) (p : ℕ) → Due ks due p → (n : ℕ) → n ≤ length ks
+      → demand (take n ks) (suc p) ≡ demand (take n ks) p + due_work ks due (suc p) n
+  demand_first due p d zero h = omega (arith, demand_none (suc p), demand_none p, due_none ks due (suc p))
+  demand_first due p d (suc n) h =
       let k = get_or ks n no_task in
       let split : (t : ℕ) → demand (take (suc n) ks) t ≡ demand (take n ks) t + jobs_by k t * C k
       = λ t. ap (λ (l : List Task). demand l t) (take-suc ks n no_task h) ∙ demand_append (take n ks) _ t ∙ ap (λ (x : ℕ). demand (take n ks) t + x) (demand_one k t) in
@@ -131,29 +120,26 @@ module _ (ks : List Task) (v : valid_tasks ks ≡ true) where
         arith,
         split (suc p),
         split p,
-        due_more rows (suc p) n,
-        ap (λ (r : Row). cond (eqb r.due (suc p)) r.work 0) (d n h),
-        demand_first rows p d n (omega arith),
+        due_more ks due (suc p) n,
+        ap (λ (x : ℕ). cond (eqb x (suc p)) (C k) 0) (d n h),
+        demand_first due p d n (omega arith),
         one_due k p (rises k (valid_at ks v n h) p),
       )
 
-  demand_next : (rows : List Row) (p : ℕ) → RowsAfter ks rows p → demand ks (suc p) ≡ demand ks p + due_work rows (suc p) (length ks)
-  demand_next rows p d =
-      subst (λ (l : List Task). demand l (suc p) ≡ demand l p + due_work rows (suc p) (length ks)) (take-length ks)
-      (demand_first rows p d (length ks) (omega arith))
+  demand_next : (due : List ℕ) (p : ℕ) → Due ks due p → demand ks (suc p) ≡ demand ks p + due_work ks due (suc p) (length ks)
+  demand_next due p d =
+      subst (λ (l : List Task). demand l (suc p) ≡ demand l p + due_work ks due (suc p) (length ks)) (take-length ks)
+      (demand_first due p d (length ks) (omega arith))
 
   module _ (s : Steps) (c : Carried ks s) where
     pub carried_steppable : length ks ≤ most_tasks → s.at ≤ limit → Steppable s
     carried_steppable few h =
         record {
-          whole = c.whole;
-          count_fits = omega (arith, c.count);
+          long = c.long;
+          few = rw c.tasks few;
           at_fits = h;
           demand_fits = le_trans (le_of_eq c.known) (le_trans (demand_bound ks v c.before) (mul-le-mul {m₂ = 2 * limit} few (omega (arith, c.is))));
-          rows_fit = λ j l.
-              let g : j < length ks = omega (arith, c.count) in
-              let w = valid_at ks v j g in
-              subst (λ (r : Row). (r.period ≤ limit) × (r.work ≤ limit)) (sym (c.rows j g)) (omega (arith, w), omega (arith, w));
+          tasks_fit = rw c.tasks (λ j g. let w = valid_at ks v j g in (omega (arith, w), omega (arith, w)));
         }
 
     pub moved : s.at ≤ limit → (r : Steps) (step : Step) → Stepped s r step → Moved ks c.before r step
@@ -164,58 +150,53 @@ module _ (ks : List Task) (v : valid_tasks ks ≡ true) where
               ∙ ap₂ (λ (t d : ℕ). record { at = t; before = d; demand = r.demand }) c.is c.known
               ∙ ap (λ (d : ℕ). record { at = suc c.before; before = demand ks c.before; demand = d }) total;
           later = further;
-          still = λ u l m. demand_still (rows_of r) (suc c.before) u passed_on l (λ j g. lt_of_lt_of_le m (below j g));
+          still = λ u l m. demand_still r.due (suc c.before) u passed_on l (λ j g. lt_of_lt_of_le m (passed_all.least.low j g));
           carried =
               record {
                 before = r.at - 1;
                 is = omega (arith, further);
-                count = w.count ∙ c.count;
-                whole = w.passed.long ∙ c.whole ∙ sym w.count;
-                rows = rows_still (rows_of r) (suc c.before) (r.at - 1) passed_on (omega (arith, further)) (λ j g. omega (arith, further, below j g));
-                known =
-                    total
-                    ∙ sym (demand_still (rows_of r) (suc c.before) (r.at - 1) passed_on (omega (arith, further)) (λ j g. omega (arith, further, below j g)));
+                tasks = w.tasks ∙ c.tasks;
+                long = w.passed.long ∙ c.long;
+                due = due_still r.due (suc c.before) (r.at - 1) passed_on (omega (arith, further)) below;
+                known = total ∙ sym (demand_still r.due (suc c.before) (r.at - 1) passed_on (omega (arith, further)) below);
               };
         }
       where
-        below : (j : ℕ) → j < length ks → r.at ≤ (get_or (rows_of r) j no_row).due
-        below j g = w.passed.least.low j (omega (arith, c.count))
+        passed_all : Passed ks s.due r.due (length ks) (suc c.before) s.demand r.demand r.at
+        passed_all =
+            subst (λ (t : ℕ). Passed ks s.due r.due (length ks) t s.demand r.demand r.at) c.is
+            (subst (λ (l : List Task). Passed l s.due r.due (length l) s.at s.demand r.demand r.at) c.tasks w.passed)
 
-        passed_on : RowsAfter ks (rows_of r) (suc c.before)
+        passed_on : Due ks r.due (suc c.before)
         passed_on j g =
-            w.passed.done j (omega (arith, c.count))
-            ∙ ap₂ (λ (t : ℕ) (x : Row). passed t x) c.is (c.rows j g)
+            passed_all.done j g
+            ∙ ap (λ (x : ℕ). passed (suc c.before) (T (get_or ks j no_task)) x) (c.due j g)
             ∙ one_passed (get_or ks j no_task) c.before (rises _ (valid_at ks v j g) c.before)
 
         total : r.demand ≡ demand ks (suc c.before)
         total =
-            w.passed.demand
-            ∙ ap₂ (λ (x t : ℕ). x + due_work (rows_of s) t s.count) c.known c.is
-            ∙ ap (λ (n : ℕ). demand ks c.before + due_work (rows_of s) (suc c.before) n) c.count
-            ∙ sym (demand_next (rows_of s) c.before c.rows)
+            passed_all.demand
+            ∙ ap (λ (x : ℕ). x + due_work ks s.due (suc c.before) (length ks)) c.known
+            ∙ sym (demand_next s.due c.before c.due)
 
         further : suc c.before < r.at
         further =
             ⊎_elim
             (λ e. omega (arith, c.is))
-            (λ q.
-            let g : q.0 < length ks = omega (arith, q.1, c.count) in
-            omega (arith, q.2, ap (λ (x : Row). x.due) (passed_on q.0 g), jobs_next_after (get_or ks q.0 no_task) (valid_at ks v q.0 g) (suc c.before)))
-            w.passed.least.attained
+            (λ q. omega (arith, q.2, passed_on q.0 q.1, jobs_next_after (get_or ks q.0 no_task) (valid_at ks v q.0 q.1) (suc c.before)))
+            passed_all.least.attained
+
+        below : (j : ℕ) → j < length ks → r.at - 1 < get_or r.due j 0
+        below j g = omega (arith, further, passed_all.least.low j g)
 
 -- a walk over valid tasks begins at instant 1 with no demand before it
-pub carried_start : (ks : List Task) → length ks ≤ most_tasks → valid_tasks ks ≡ true → (s : Steps) → Begun ks s → Carried ks s
-carried_start ks few v s b =
+pub carried_start : (ks : List Task) → valid_tasks ks ≡ true → (s : Steps) → Begun ks s → Carried ks s
+carried_start ks v s b =
     record {
       before = 0;
       is = b.at;
-      count = b.count;
-      whole = length-take-le s.count s.rows (omega (arith, b.count, b.long));
-      rows = λ j l.
-          let k = get_or ks j no_task in
-          let none : next_deadline k 0 ≡ span k = omega (arith, ap (λ (x : ℕ). x * T k) (jobs_zero k (valid_at ks v j l))) in
-          get_or-take s.count s.rows j no_row (omega (arith, b.count))
-          ∙ b.rows j l
-          ∙ ap (λ (x : ℕ). record { period = T k; work = C k; due = x }) (sym none);
+      tasks = b.tasks;
+      long = b.long;
+      due = λ j l. let k = get_or ks j no_task in b.due j l ∙ omega (arith, ap (λ (x : ℕ). x * T k) (jobs_zero k (valid_at ks v j l)));
       known = b.demand ∙ sym (demand_zero ks v);
     }

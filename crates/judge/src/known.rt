@@ -1,30 +1,26 @@
 // Judging a component whose stored common period is known to be right (budget::known): the answers of the public operations, with the common period read
-// and not worked out.
+// and not worked out. Each differs from its public one in the one call that asks for it: a parameter for that call would be longer than both.
 ghost use Rattle.std.specs.Prelude.{◌≡◌};
-ghost use Rattle.budget.specs.Component.{Right};
 ghost use Rattle.judge.specs.Answer.{answer_in, judge_answer};
 ghost use Rattle.judge.specs.Capacity.{capacity_answer, smallest_in};
 
 use crate::answer::Judgement;
 use crate::capacity::least_capacity;
 use crate::judging::judge_over;
-use budget::component::Component;
-use budget::known::common_period;
+use budget::known::{Known, common_period};
 use budget::quantity::Units;
 use budget::refusal::Refusal;
 
-pub fn judge(component: Component) -> Result<Judgement, Refusal>
-    requires { Right component }
-    ensures { answer_in result ≡ judge_answer component }
+pub fn judge(known: Known) -> Result<Judgement, Refusal>
+    ensures { answer_in result ≡ judge_answer known.component }
 {
-    let length = common_period(component)?;
-    Ok(judge_over(component, length))
+    let length = common_period(known)?;
+    Ok(judge_over(known.component, length))
 }
 
-pub fn smallest_capacity(component: Component) -> Result<Option<Units>, Refusal>
-    requires { Right component }
-    ensures { smallest_in result ≡ capacity_answer component }
+pub fn smallest_capacity(known: Known) -> Result<Option<Units>, Refusal>
+    ensures { smallest_in result ≡ capacity_answer known.component }
 {
-    let length = common_period(component)?;
-    Ok(least_capacity(component, length))
+    let length = common_period(known)?;
+    Ok(least_capacity(known.component, length))
 }

@@ -48,6 +48,7 @@ pub(crate) fn scan(tasks: &[Task], interface: Interface, length: Time) -> Scanne
         short: None,
         tight: None,
     };
+    // No index is counted: each step says which instant is the next.
     while steps.at <= length.0 {
         let step = steps.pass();
         found = try_instant(found, interface, step);

@@ -1,4 +1,5 @@
-// A signed margin as the numbers that a reply and a line hold: its sign, its magnitude, its 32 bits (RULES 14, 15).
+// A signed margin as the numbers that a reply and a line hold: its sign, its magnitude, its 32 bits (RULES 14, 15). Each is a method of std under the rules'
+// word, with what the rules say of it as its contract.
 ghost use Rattle.std.specs.Prelude.{◌≡◌, nat_abs};
 ghost use Rattle.judge.specs.Signed.{is_negative, signed_bits};
 

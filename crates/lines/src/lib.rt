@@ -12,82 +12,32 @@ pub struct Held {
     pub start: usize,
     pub seen: usize,
     pub end: usize,
+    // A flag and no Option of the rest, since `Stopped`, `Behind` and `Refilled` say where what is held stands when the input is over too.
     pub open: bool,
-}
-
-// Nothing is read yet.
-pub fn nothing() -> Held
-    ensures { Unread result }
-{
-    Held {
-        start: 0,
-        seen: 0,
-        end: 0,
-        open: true,
-    }
 }
 
 // The place of the first line end from a place on, or the end of the bytes.
 pub fn line_end(bytes: &[u8], from: usize) -> usize
     ensures { LineEnd bytes.now from result }
 {
-    let mut at = from;
-    while at < bytes.len() {
-        if bytes[at] == b'\n' {
-            return at;
-        }
-        at += 1;
+    if from > bytes.len() {
+        return from;
     }
-    at
+    match bytes[from..].iter().position(|byte| *byte == b'\n') {
+        Some(before) => from + before,
+        None => bytes.len(),
+    }
 }
 
 // Moves the bytes from a place up to another to the front, and answers how many there are.
 fn keep_rest(row: &mut [u8], from: usize, end: usize) -> usize
     ensures { Kept row.old from end row.new result }
 {
-    if from > end {
+    if from > end || end > row.len() {
         return 0;
     }
-    if end > row.len() {
-        return 0;
-    }
-    let count = end - from;
-    if from == 0 {
-        return count;
-    }
-    let mut to = 0;
-    while to < count {
-        row[to] = row[from + to];
-        to += 1;
-    }
-    count
-}
-
-// What is held once the line that ends at a place is taken.
-pub fn after_line(held: Held, end: usize) -> Held
-    ensures { Taken held end result }
-{
-    if end >= held.end {
-        return stopped(held.end);
-    }
-    Held {
-        start: end + 1,
-        seen: end + 1,
-        end: held.end,
-        open: held.open,
-    }
-}
-
-// Nothing more is read, and of what is held nothing is a line.
-pub fn stopped(end: usize) -> Held
-    ensures { Stopped end result }
-{
-    Held {
-        start: end,
-        seen: end,
-        end: end,
-        open: false,
-    }
+    row.copy_within(from..end, 0);
+    end - from
 }
 
 // Says on standard error why the input ends here. Where that can't be said, the input ends all the same.
@@ -95,7 +45,7 @@ fn stop_told(rt: &impl Eprint, held: usize, why: &str) -> Held
     ensures { Stopped held result }
 {
     let _ = rt.eprintln(why);
-    stopped(held)
+    Held::stopped(held)
 }
 
 // Reads once behind the bytes held. Where the row has no room, the line is too long to be a call: that, and a read that fails,
@@ -117,18 +67,53 @@ fn read_behind(rt: &impl Eprint, input: &mut impl Read, row: &mut [u8], held: us
     }
 }
 
-// Reads once, where no line is whole: what is held moves to the front, and what is read goes behind it.
-pub fn read_more(rt: &impl Eprint, input: &mut impl Read, row: &mut [u8], held: Held) -> Held
-    ensures { Refilled row.old held row.new result }
-{
-    let start = held.start;
-    let end = held.end;
-    if start > end {
-        return stopped(0);
+impl Held {
+    // Nothing is read yet.
+    pub fn nothing() -> Self
+        ensures { Unread result }
+    {
+        Held {
+            start: 0,
+            seen: 0,
+            end: 0,
+            open: true,
+        }
     }
-    if end > row.len() {
-        return stopped(0);
+
+    // Nothing more is read, and of what is held nothing is a line.
+    pub fn stopped(end: usize) -> Self
+        ensures { Stopped end result }
+    {
+        Held {
+            start: end,
+            seen: end,
+            end,
+            open: false,
+        }
     }
-    let kept = keep_rest(row, start, end);
-    read_behind(rt, input, row, kept)
+
+    // What is held once the line that ends at a place is taken.
+    pub fn after_line(self, end: usize) -> Self
+        ensures { Taken self end result }
+    {
+        if end >= self.end {
+            return Held::stopped(self.end);
+        }
+        Held {
+            start: end + 1,
+            seen: end + 1,
+            ..self
+        }
+    }
+
+    // Reads once, where no line is whole: what is held moves to the front, and what is read goes behind it.
+    pub fn read_more(self, rt: &impl Eprint, input: &mut impl Read, row: &mut [u8]) -> Self
+        ensures { Refilled row.old self row.new result }
+    {
+        if self.start > self.end || self.end > row.len() {
+            return Held::stopped(0);
+        }
+        let kept = keep_rest(row, self.start, self.end);
+        read_behind(rt, input, row, kept)
+    }
 }

@@ -1,12 +1,12 @@
--- A field against the 4 bytes that the library makes a number of and a number into: a shorter field is their front, and the bytes behind it are 0.
-use Prim.Native.Nat.{ℕ, zero, suc, ◌+◌, ◌-◌, ◌*◌, ◌/◌, ◌%◌, ◌≤◌}
-use mathlib.Core.Path.{◌≡◌, refl, sym, ap, ◌∙◌}
-use mathlib.Core.List.{List, [], ◌∷◌, ◌++◌}
-use native.Mathlib.Nat.{zero-add, suc-add}
+-- A field read byte by byte, from the highest down; and one written, against the 4 bytes that the library makes of a number, of which it is the front.
+use Prim.Native.Nat.{ℕ, zero, suc, ◌+◌, ◌-◌, ◌*◌, ◌/◌, ◌%◌, ◌^◌, ◌≤◌, ◌<◌}
+use mathlib.Core.Path.{◌≡◌, refl, ap, ap₂, ◌∙◌}
+use mathlib.Core.List.{List, ◌∷◌}
+use native.Mathlib.Nat.{pow-suc, pow-le-pow_right, lt_of_lt_of_le}
+use native.Mathlib.Numerals.{add-one}
 use native.Mathlib.Omega.{arith}
-use lib.ListN.{length, get_or, take, drop, replicate}
-use Rattle.std.proofs.lemmas.List.{get_or_past, get_or-drop}
-use Rattle.std.specs.Int.{w32, to_le_bytes, from_le_bytes}
+use lib.ListN.{length, get_or, take}
+use Rattle.std.specs.Int.{w32, to_le_bytes}
 use Rattle.record.specs.Field.{encode, field}
 
 -- ---- writing
@@ -29,46 +29,31 @@ front n x h = ap (take n) (wide x) ∙ less n 4 x h
 
 -- ---- reading
 
--- a field sees the bytes in it and no others
-alike : (s t : List ℕ) (at n : ℕ) → ((i : ℕ) → get_or s i 0 ≡ get_or t i 0) → field s at n ≡ field t at n
-unfolding field
-alike s t at zero h = refl
-alike s t at (suc n) h = rw h (ap (λ (x : ℕ). get_or t at 0 + 256 * x) (alike s t (at + 1) n h))
+-- from the highest byte down, so many of them are read: the number is the field that begins at the byte read last
+pub record Read (s : List ℕ) (number count : ℕ) : Type 0 where
+  pub few : count ≤ length s
+  pub is : number ≡ field s (length s - count) count
+  pub fits : number < 256 ^ count
 
-beyond : (s : List ℕ) (at n : ℕ) → ((i : ℕ) → at ≤ i → get_or s i 0 ≡ 0) → field s at n ≡ 0
-unfolding field
-beyond s at zero h = refl
-beyond s at (suc n) h =
-    let e = h at (omega arith) in
-    let f = beyond s (at + 1) n (λ i l. h i (omega arith)) in omega arith
+module _ (s : List ℕ) where
+  pub read_none : Read s 0 0
+  unfolding field
+  read_none = record { few = omega arith; is = refl; fits = omega arith }
 
--- zeros behind the bytes are as good as none
-zeros : (n i : ℕ) → get_or {A = ℕ} (replicate n 0) i 0 ≡ 0
-zeros zero i = refl
-zeros (suc n) zero = refl
-zeros (suc n) (suc i) = zeros n i
+  module _ (number count : ℕ) (r : Read s number count) where
+    pub read_more : (byte next : ℕ) → count < length s → next ≡ count + 1 → byte ≡ get_or s (length s - 1 - count) 0 → byte < 256 → Read s (byte + 256 * number) next
+    unfolding field
+    read_more byte next h n e b =
+        let p : length s - count ≡ length s - suc count + 1 = omega arith in
+        let q : length s - 1 - count ≡ length s - suc count = omega arith in
+        let f : byte ≡ get_or s (length s - suc count) 0 = e ∙ ap (λ (i : ℕ). get_or s i 0) q in
+        rw (n, add-one)
+        (record {
+          few = omega arith;
+          is = ap₂ (λ (x y : ℕ). x + 256 * y) f (r.is ∙ ap (λ (i : ℕ). field s i count) p);
+          fits = rw pow-suc (omega (arith, r.fits));
+        })
 
-behind : (s t : List ℕ) → ((i : ℕ) → get_or t i 0 ≡ 0) → (i : ℕ) → get_or (s ++ t) i 0 ≡ get_or s i 0
-behind [] t h i = h i
-behind (x ∷ s) t h zero = refl
-behind (x ∷ s) t h (suc i) = behind s t h i
-
--- nor does a field see further than the bytes go
-cut : (s : List ℕ) (at n m : ℕ) → length s ≤ at + n → field s at (n + m) ≡ field s at n
-unfolding field
-cut s at zero m h = rw zero-add (beyond s at m (λ i l. get_or_past s i 0 (omega arith)))
-cut s at (suc n) m h = rw suc-add (ap (λ (x : ℕ). get_or s at 0 + 256 * x) (cut s (at + 1) n m (omega arith)))
-
-whole : (s : List ℕ) → from_le_bytes w32 s ≡ field s 0 4
-unfolding field
-whole s = omega arith
-
-pub padded : (s t : List ℕ) → length s ≤ 4 → ((i : ℕ) → get_or t i 0 ≡ 0) → from_le_bytes w32 (s ++ t) ≡ field s 0 (length s)
-padded s t h z =
-    let n : length s + (4 - length s) ≡ 4 = omega arith in
-    whole (s ++ t)
-    ∙ (alike (s ++ t) s 0 4 (behind s t z)
-    ∙ (ap (field s 0) (sym n) ∙ cut s 0 (length s) (4 - length s) (omega arith)))
-
-pub zeros_left : (n i : ℕ) → get_or {A = ℕ} (drop n (replicate 4 0)) i 0 ≡ 0
-zeros_left n i = rw get_or-drop (zeros 4 (n + i))
+-- a number of fewer than 4 bytes has room for one byte more
+pub small : (n x : ℕ) → n ≤ 3 → x < 256 ^ n → x < 256 ^ 3
+small n x h b = lt_of_lt_of_le b (pow-le-pow_right {n = 256} (omega arith) h)

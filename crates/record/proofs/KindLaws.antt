@@ -1,7 +1,7 @@
 -- The kinds of a sheet, one by one: what holds of each listed kind, and of any that isn't listed, holds of every number; the rows are narrow.
 use Prim.Native.Nat.{ℕ, zero, suc}
 use mathlib.Core.Path.{◌≡◌, refl, sym, subst}
-use mathlib.Core.Bool.{Bool, true, false, ◌&&◌}
+use mathlib.Core.Bool.{true, false}
 use mathlib.Core.List.{List, [], ◌∷◌}
 use native.Mathlib.Omega.{arith}
 use lib.Dec.{leb, eqb}
@@ -9,7 +9,7 @@ use borrow.Author.Tests.{leb-true, eqb-true}
 use Rattle.budget.specs.Refusal as refusal
 use Rattle.budget.proofs.Valid.{both}
 use Rattle.record.specs.Record.{NoRecord}
-use Rattle.record.specs.Layout.{stated_row, task_row, end_row, asked_row, late_row, pair_row, no_row, row_of, record_with}
+use Rattle.record.specs.Layout.{no_row, row_of, record_with}
 use Rattle.record.specs.Row.{row_length}
 use Rattle.record.specs.declared.kind.Kind.{Kind}
 use Rattle.record.specs.declared.kind.Kind.TheVariants as kind

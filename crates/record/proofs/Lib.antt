@@ -1,3 +1,4 @@
+pub mod Apart
 pub mod Cases
 pub mod FieldLaws
 pub mod FieldLoops

@@ -79,7 +79,7 @@ pub record_length : (r : Record) → length (record_bytes r) ≡ size_of r
 record_length r = ap length (record_row r) ∙ (row_length_lem (row_of (kind_of r)) (headed (row_of (kind_of r)) (kind_of r) (fields_of r)) ∙ sym (size_row r))
 
 -- a row with its length and kind in front, as the writers make it
-pub headed_bytes : (row ws : List ℕ) (kind : ℕ) (fields values : List ℕ) → row ≡ ws → values ≡ headed row kind fields → row_bytes row values ≡ row_bytes ws (headed ws kind fields)
+headed_bytes : (row ws : List ℕ) (kind : ℕ) (fields values : List ℕ) → row ≡ ws → values ≡ headed row kind fields → row_bytes row values ≡ row_bytes ws (headed ws kind fields)
 headed_bytes row ws kind fields values e f = rw (f, e)
 
 pub record_bytes_lem : (r : Record) (kind : ℕ) (row fields values : List ℕ) → kind ≡ kind_of r → row ≡ row_of kind → fields ≡ fields_of r → values ≡ headed row kind fields → row_bytes row values ≡ record_bytes r

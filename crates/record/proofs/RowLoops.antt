@@ -1,14 +1,14 @@
 -- The loops over a row's fields. What was summed, read or stored so far, and what is left of the row, together give the whole.
 use Prim.Native.Nat.{ℕ, zero, suc, ◌+◌, ◌*◌, ◌^◌, ◌≤◌, ◌<◌}
 use mathlib.Core.Path.{◌≡◌, refl, sym, ap, ap₂, ◌∙◌}
-use mathlib.Core.List.{List, [], ◌∷◌, ◌++◌, append_assoc, append-nil}
+use mathlib.Core.List.{List, [], ◌∷◌, ◌++◌, append_assoc}
 use native.Mathlib.Nat.{one-le-pow}
 use native.Mathlib.Numerals.{add-one}
 use native.Mathlib.Decide.{ℕ_discrete}
 use native.Mathlib.Omega.{arith}
-use lib.ListN.{length, get_or, take, drop, set, replicate, length-set, drop_of_length-le}
+use lib.ListN.{length, get_or, take, drop, set, replicate, length-set}
 use borrow.Rule.Slice.PartMut.{put_mid}
-use lib.Seq.{sets, length-sets, drop-cons, take-suc-set, take_all, get_or-set_same, get_or-set_other}
+use lib.Seq.{sets, length-sets, drop-cons, take-suc-set, get_or-set_same, get_or-set_other}
 use Rattle.std.proofs.lemmas.List.Recursion.{is_sum_by}
 use Rattle.std.specs.List.{sum}
 use Rattle.record.specs.Field.{encode, field}
@@ -36,9 +36,6 @@ module _ (ws : List ℕ) (i : ℕ) (h : i < length ws) where
 
   pub next_length : row_length (drop i ws) ≡ get_or ws i 0 + row_length (drop (i + 1) ws)
   next_length = ap row_length next_field
-
-pub none_left : (ws : List ℕ) (i : ℕ) → length ws ≤ i → drop i ws ≡ []
-none_left ws i h = drop_of_length-le ws {i = i} h
 
 -- ---- reading
 
@@ -79,11 +76,6 @@ module _ (ws s values : List ℕ) (place i : ℕ) (r : Reading ws s values place
       held j (yes p) = rw p (rw (get_or-set_same values i value 0 (omega (arith, r.long))) b)
       held j (no p) = rw (get_or-set_other values i j value 0 p) (r.held j)
 
-  pub reading_all : length ws ≤ i → values ≡ values_at ws s 0
-  reading_all h =
-      sym (take_all i values (omega (arith, r.long)))
-      ∙ (sym (append-nil (take i values)) ∙ (ap (λ (l : List ℕ). take i values ++ values_at l s place) (sym (none_left ws i h)) ∙ r.todo))
-
 -- ---- storing
 
 pub record Storing (start ws vs part : List ℕ) (place i : ℕ) : Type 0 where
@@ -93,7 +85,7 @@ pub record Storing (start ws vs part : List ℕ) (place i : ℕ) : Type 0 where
 
 module _ (start ws vs : List ℕ) (same : length vs ≡ length ws) where
   module _ (part : List ℕ) (place i : ℕ) (r : Storing start ws vs part place i) where
-    pub storing_more : (new : List ℕ) → i < length ws → new ≡ sets part place (encode (get_or ws i 0) (get_or vs i 0)) → Storing start ws vs new (place + get_or ws i 0) (i + 1)
+    storing_more : (new : List ℕ) → i < length ws → new ≡ sets part place (encode (get_or ws i 0) (get_or vs i 0)) → Storing start ws vs new (place + get_or ws i 0) (i + 1)
     storing_more new h e =
         let w = get_or ws i 0 in
         let v = get_or vs i 0 in
@@ -121,6 +113,3 @@ module _ (start ws vs : List ℕ) (same : length vs ≡ length ws) where
         rw (n, e)
         (storing_more (put_mid place m part new) h
         (part_stored part place m new (k ∙ sym long) (omega arith) ∙ (ap (sets part place) bytes ∙ ap₂ (λ (a b : ℕ). sets part place (encode a b)) e f)))
-
-    pub storing_all : length ws ≤ i → part ≡ sets start 0 (row_bytes ws vs)
-    storing_all h = ap (λ (l : List ℕ). sets part place (row_bytes l (drop i vs))) (sym (none_left ws i h)) ∙ r.todo

@@ -1,5 +1,5 @@
 -- A record of a sheet as the definitions speak of it (RULES 10), and how the code's records and answers are read as such.
-use Rattle.std.specs.Prelude.{ℕ, Bool, Result, Ok, Err}
+use Rattle.std.specs.Prelude.{ℕ, ◌≡◌, Bool, Result, Ok, Err}
 use Rattle.budget.specs.declared.refusal.Refusal.{Refusal}
 use Rattle.budget.specs.declared.task.Task.{Task}
 use Rattle.budget.specs.Refusal.{number_of}
@@ -27,3 +27,7 @@ said (variant.End count) = EndRecord count
 abbrev pub record_in : Result code.Record Refusal → Record
 record_in (Ok r) = said r
 record_in (Err r) = NoRecord (number_of r)
+
+-- what is read settles the code's answer: no two are read as the same
+abbrev pub RecordsApart : Type 0
+RecordsApart = (a b : Result code.Record Refusal) → record_in a ≡ record_in b → a ≡ b

@@ -1,5 +1,5 @@
 -- What storing bytes at a place makes of a buffer, and what a writer answers (RULES 10, 11).
-use Rattle.std.specs.Prelude.{ℕ, ◌+◌, cond, List, [], ◌∷◌, ◌++◌, length, take, drop, leb, eqb, Result, Ok, Err}
+use Rattle.std.specs.Prelude.{ℕ, ◌≡◌, ◌+◌, cond, List, [], ◌∷◌, ◌++◌, length, take, drop, leb, eqb, Result, Ok, Err}
 use Rattle.budget.specs.declared.refusal.Refusal.{Refusal}
 use Rattle.budget.specs.Refusal as refusal
 use Rattle.record.specs.Row.{row_bytes}
@@ -13,6 +13,10 @@ pub record Written : Type 0 where
 abbrev pub written_in : Result ℕ Refusal → Written
 written_in (Ok place) = record { refusal = refusal.none; place = place }
 written_in (Err r) = record { refusal = refusal.number_of r; place = 0 }
+
+-- which settles that answer: no two are read as the same
+abbrev pub WritesApart : Type 0
+WritesApart = (a b : Result ℕ Refusal) → written_in a ≡ written_in b → a ≡ b
 
 -- the buffer with the bytes stored from a place on: every other byte stays
 unfoldable pub stored : List ℕ → ℕ → List ℕ → List ℕ

@@ -49,25 +49,14 @@ impl Kind {
     pub(crate) fn row(self) -> Row
         ensures { result.widths ≡ row_of (kind_number self) }
     {
-        match self {
-            Kind::Stated => Row {
-                widths: [2, 2, 2, 4, 4, 4, 0, 0],
-            },
-            Kind::Task => Row {
-                widths: [2, 2, 4, 4, 4, 0, 0, 0],
-            },
-            Kind::End => Row {
-                widths: [2, 2, 2, 0, 0, 0, 0, 0],
-            },
-            Kind::Asked => Row {
-                widths: [2, 2, 2, 4, 4, 0, 0, 0],
-            },
-            Kind::Late => Row {
-                widths: [2, 2, 4, 4, 4, 4, 0, 0],
-            },
-            Kind::Pair => Row {
-                widths: [2, 2, 2, 2, 0, 0, 0, 0],
-            },
-        }
+        let widths = match self {
+            Kind::Stated => [2, 2, 2, 4, 4, 4, 0, 0],
+            Kind::Task => [2, 2, 4, 4, 4, 0, 0, 0],
+            Kind::End => [2, 2, 2, 0, 0, 0, 0, 0],
+            Kind::Asked => [2, 2, 2, 4, 4, 0, 0, 0],
+            Kind::Late => [2, 2, 4, 4, 4, 4, 0, 0],
+            Kind::Pair => [2, 2, 2, 2, 0, 0, 0, 0],
+        };
+        Row { widths }
     }
 }

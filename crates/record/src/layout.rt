@@ -1,7 +1,7 @@
 // The records of a sheet (RULES 10): each kind is a row of fields. Reading one judges its layout and none of its values.
-ghost use Rattle.std.specs.Prelude.{◌≡◌, ◌<◌, get_or};
-ghost use Rattle.record.specs.Layout.{row_of, record_with, of_kind, record_of, task_of, stated_of, asked_of, pair_of};
-ghost use Rattle.record.specs.Record.{said, record_in};
+ghost use Rattle.std.specs.Prelude.{◌≡◌};
+ghost use Rattle.record.specs.Layout.{row_of, record_with, of_kind, record_of, task_of};
+ghost use Rattle.record.specs.Record.{PairRecord, said, record_in};
 ghost use Rattle.record.specs.inner.Fields.{head_kind, head_fields, fields_of, kind_of};
 ghost use Rattle.record.specs.inner.Kinds.{kind_number};
 ghost use Rattle.record.specs.inner.Narrow.{Held};
@@ -63,6 +63,16 @@ impl Head {
     }
 }
 
+impl Pair {
+    fn fields(self) -> Values
+        ensures { result ≡ fields_of (PairRecord self) }
+    {
+        let child = u32::from(self.child);
+        let parent = u32::from(self.parent);
+        [0, 0, child, parent, 0, 0, 0, 0]
+    }
+}
+
 impl Record {
     pub(crate) fn kind(self) -> Kind
         ensures { kind_number result ≡ kind_of (said self) }
@@ -91,42 +101,9 @@ impl Record {
                 0,
                 0,
             ],
-            Record::Pair(pair) => [
-                0,
-                0,
-                u32::from(pair.child),
-                u32::from(pair.parent),
-                0,
-                0,
-                0,
-                0,
-            ],
+            Record::Pair(pair) => pair.fields(),
             Record::End(count) => [0, 0, u32::from(count), 0, 0, 0, 0, 0],
         }
-    }
-}
-
-fn stated_of(values: Values) -> Head
-    requires { get_or values 2 0 < 65_536 }
-    ensures { result ≡ stated_of values }
-{
-    Head {
-        number: values[2] as u16,
-        period: Time(values[3]),
-        capacity: Capacity::Stated(Units(values[4])),
-        deadline: Time(values[5]),
-    }
-}
-
-fn asked_of(values: Values) -> Head
-    requires { get_or values 2 0 < 65_536 }
-    ensures { result ≡ asked_of values }
-{
-    Head {
-        number: values[2] as u16,
-        period: Time(values[3]),
-        capacity: Capacity::Asked,
-        deadline: Time(values[4]),
     }
 }
 
@@ -141,16 +118,6 @@ fn task_of(values: Values, late: u32) -> Task
     }
 }
 
-fn pair_of(values: Values) -> Pair
-    requires { (get_or values 2 0 < 65_536) × (get_or values 3 0 < 65_536) }
-    ensures { result ≡ pair_of values }
-{
-    Pair {
-        child: values[2] as u16,
-        parent: values[3] as u16,
-    }
-}
-
 // The record of a kind with these values.
 #[tactic(auto, unfolding(crate::specs::Layout::row_of, crate::specs::Layout::record_with))]
 fn record_with(kind: Kind, values: Values) -> Record
@@ -158,18 +125,31 @@ fn record_with(kind: Kind, values: Values) -> Record
     ensures { said result ≡ record_with (kind_number kind) values }
 {
     match kind {
-        Kind::Stated => Record::Component(stated_of(values)),
+        Kind::Stated => Record::Component(Head {
+            number: values[2] as u16,
+            period: Time(values[3]),
+            capacity: Capacity::Stated(Units(values[4])),
+            deadline: Time(values[5]),
+        }),
         Kind::Task => Record::Task {
             stated: false,
             task: task_of(values, 0),
         },
         Kind::End => Record::End(values[2] as u16),
-        Kind::Asked => Record::Component(asked_of(values)),
+        Kind::Asked => Record::Component(Head {
+            number: values[2] as u16,
+            period: Time(values[3]),
+            capacity: Capacity::Asked,
+            deadline: Time(values[4]),
+        }),
         Kind::Late => Record::Task {
             stated: true,
             task: task_of(values, values[5]),
         },
-        Kind::Pair => Record::Pair(pair_of(values)),
+        Kind::Pair => Record::Pair(Pair {
+            child: values[2] as u16,
+            parent: values[3] as u16,
+        }),
     }
 }
 

@@ -1,6 +1,6 @@
 // What a host is answered on one component: a record in the sheet's encoding (RULES 14).
 ghost use Rattle.std.specs.Prelude.{◌≡◌, length};
-ghost use Rattle.record.specs.Reply.{reply_row, reply_bytes};
+ghost use Rattle.record.specs.Reply.{reply_bytes};
 ghost use Rattle.record.specs.Writing.{room_refusal, written, written_in, buffered};
 
 use crate::row::Row;
@@ -21,14 +21,6 @@ pub struct Reply {
 
 const REPLY: u16 = 16;
 
-fn reply_row() -> Row
-    ensures { result.widths ≡ reply_row }
-{
-    Row {
-        widths: [2, 2, 2, 2, 4, 4, 4, 4],
-    }
-}
-
 // Writes a reply from a place on, and answers the place behind it.
 #[tactic(auto, unfolding(crate::specs::Reply::reply_bytes, crate::specs::Field::encode))]
 pub fn write_reply(buffer: &mut [u8], at: usize, reply: Reply) -> Result<usize, Refusal>
@@ -45,6 +37,8 @@ pub fn write_reply(buffer: &mut [u8], at: usize, reply: Reply) -> Result<usize, 
         reply.margin,
         reply.stands.0,
     ];
-    let row = reply_row();
+    let row = Row {
+        widths: [2, 2, 2, 2, 4, 4, 4, 4],
+    };
     write_row(buffer, at, row, row.headed(REPLY, fields))
 }

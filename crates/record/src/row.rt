@@ -10,8 +10,7 @@ use crate::field::{number_in, put_number};
 // The most fields that a record has, its length and its kind among them.
 const FIELDS: usize = 8;
 
-// The widths of a row's fields; a width of 0 fills up. The widths in specs/Layout.antt are filled up too, and an array of one size is
-// read without a loop.
+// The widths of a row's fields, filled up with 0 to eight as each row of specs/Layout.antt is.
 #[derive(Clone, Copy)]
 pub(crate) struct Row {
     pub(crate) widths: [usize; FIELDS],

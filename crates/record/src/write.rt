@@ -22,6 +22,7 @@ pub fn check_room(room: usize, at: usize, size: usize) -> Result<(), Refusal>
 }
 
 // The row is put by a function that is lent the part of the buffer from its place on, and fills only the row.
+#[tactic(auto, unfolding(crate::specs::Writing::room_refusal))]
 pub(crate) fn write_row(
     buffer: &mut [u8],
     at: usize,

@@ -1,67 +1,34 @@
--- The digits of a number: steps to spare change nothing, since the number falls at each step; so `decimal` meets its recursive
--- equations, and a number below 10 ^ k has at most k digits.
-use Prim.Native.Nat.{ℕ, zero, suc, ◌+◌, ◌/◌, ◌%◌, ◌≤◌, ◌<◌, ◌^◌}
-use native.Mathlib.Nat.{not-suc-le-zero, pow-suc}
-use native.Mathlib.Decide.{dec_lt}
+-- A number's text as std prints it is the one that the rules define: both put the last digit behind those of a tenth.
+use Prim.Native.Nat.{ℕ, suc, ◌^◌, ◌<◌}
 use native.Mathlib.Omega.{arith}
 use mathlib.Core.Path.{◌≡◌, sym, ap, ◌∙◌}
-use mathlib.Core.List.{List, [], ◌∷◌, ◌++◌}
-use lib.ListN.{length, length-append}
+use mathlib.Core.List.{List, ◌∷◌, append_assoc}
+use lib.IntN.{ℤ, pos, negsuc}
 use borrow.Author.Tests.{lt-ltb, le-ltb}
-use Rattle.report.specs.Text.{digits, decimal}
+use mir.Facts.{to_z-of_z}
+use mir.Syntax.{w32}
+use mir.Val.{SFits, to_z, of_z}
+use Rattle.std.specs.Fmt.{signed_decimal}
+use Rattle.std.specs.Fmt.{decimal as printed}
+use Rattle.std.proofs.lemmas.Fmt.{AppendsLastDigit, decimal_from_appends, length-decimal-le_succ}
+use Rattle.report.specs.Text.{digits, decimal, signed_text}
 
-digits_one : (steps n : ℕ) → n < 10 → digits (suc steps) n ≡ (48 + n) ∷ []
+last_digit : AppendsLastDigit digits
 unfolding digits
-digits_one steps n h = rw (lt-ltb n 10 h, digits)
+last_digit = record { one = λ k n h. rw (lt-ltb n 10 h, digits); more = λ k n h. rw (le-ltb n 10 h, digits) }
 
-digits_more : (steps n : ℕ) → 10 ≤ n → digits (suc steps) n ≡ digits steps (n / 10) ++ ((48 + n % 10) ∷ [])
-unfolding digits
-digits_more steps n h = rw (le-ltb n 10 h, digits)
-
-tenth_less : (n : ℕ) → 10 ≤ n → n / 10 < n
-tenth_less n h = omega arith
-
-digits_enough : (a b n : ℕ) → n < a → n < b → digits a n ≡ digits b n
-digits_enough zero b n h k = absurd (not-suc-le-zero h)
-digits_enough (suc a) zero n h k = absurd (not-suc-le-zero k)
-digits_enough (suc a) (suc b) n h k =
-    elim (dec_lt n 10) [
-      | yes s ↦ digits_one a n s ∙ sym (digits_one b n s)
-      | no l ↦
-          digits_more a n (omega arith)
-          ∙ ap (λ (ds : List ℕ). ds ++ ((48 + n % 10) ∷ [])) (digits_enough a b (n / 10) (omega arith) (omega arith))
-          ∙ sym (digits_more b n (omega arith))
-    ]
-
-pub decimal_one : (n : ℕ) → n < 10 → decimal n ≡ (48 + n) ∷ []
+pub decimal_is : (n : ℕ) → n < 2 ^ 64 → printed n ≡ decimal n
 unfolding decimal
-decimal_one n h = digits_one n n h
+decimal_is n h = sym (decimal_from_appends digits last_digit (suc n) n h (omega (arith, length-decimal-le_succ n h)))
 
-pub decimal_more : (n : ℕ) → 10 ≤ n → decimal n ≡ decimal (n / 10) ++ ((48 + n % 10) ∷ [])
-unfolding decimal
-decimal_more n h =
-    digits_more n n h
-    ∙ ap (λ (ds : List ℕ). ds ++ ((48 + n % 10) ∷ [])) (digits_enough n (suc (n / 10)) (n / 10) (tenth_less n h) (omega arith))
+pub signed_is : (z : ℤ) → SFits w32 z → signed_decimal z ≡ signed_text z
+unfolding signed_text
+signed_is (pos n) f = decimal_is n (omega (arith, f.sfits))
+signed_is (negsuc n) f = ap (λ (ds : List ℕ). 45 ∷ ds) (decimal_is (suc n) (omega (arith, f.sfits)))
 
-pub length_one : (n : ℕ) → n < 10 → length (decimal n) ≡ 1
-length_one n h = ap length (decimal_one n h)
+-- a number that a call is handed by its bits
+pub handed_is : (z : ℤ) → SFits w32 z → signed_decimal (to_z w32 (of_z w32 z)) ≡ signed_text z
+handed_is z f = ap signed_decimal (to_z-of_z f) ∙ signed_is z f
 
-pub length_more : (n : ℕ) → 10 ≤ n → length (decimal n) ≡ length (decimal (n / 10)) + 1
-length_more n h = ap length (decimal_more n h) ∙ length-append (decimal (n / 10)) ((48 + n % 10) ∷ [])
-
-pub decimal_length : (k n : ℕ) → n < 10 ^ k → length (decimal n) ≤ suc k
-decimal_length zero n h = omega (arith, length_one n (omega arith))
-decimal_length (suc k) n h =
-    elim (dec_lt n 10) [
-      | yes s ↦ omega (arith, length_one n s)
-      | no l ↦
-          let r : length (decimal (n / 10)) ≤ suc k = decimal_length k (n / 10) (omega (arith, pow-suc 10 k)) in
-          omega (arith, length_more n (omega arith))
-    ]
-
--- the most digits of a number of 64 bits and of one of 32
-pub digits_64 : (n : ℕ) → n < 2 ^ 64 → length (decimal n) ≤ 21
-digits_64 n h = decimal_length 20 n (omega arith)
-
-pub digits_32 : (n : ℕ) → n < 2 ^ 32 → length (decimal n) ≤ 11
-digits_32 n h = decimal_length 10 n (omega arith)
+-- what shows a line that is put together of fields
+pub ruleset as_text = (decimal_is, handed_is, append_assoc)

@@ -1,5 +1,3 @@
 pub mod Digits
 pub mod Pages
-pub mod Puts
-pub mod SignedText
 pub mod Unpaired

@@ -1,12 +1,12 @@
--- A line put into a page: what was put at the front of a line is its first bytes, and these go behind what the page holds.
+-- A line put into a page: its bytes are copied behind what the page holds.
 use Prim.Native.Nat.{ℕ, ◌+◌, ◌≤◌}
 use native.Mathlib.Numerals.{add-one}
 use native.Mathlib.Omega.{arith}
-use mathlib.Core.Path.{◌≡◌, refl, sym, ap, subst, ◌∙◌}
+use mathlib.Core.Path.{◌≡◌, refl, sym, ap, ◌∙◌}
 use mathlib.Core.List.{List, ◌++◌}
-use lib.ListN.{length, take, drop, length-append}
+use lib.ListN.{length, length-append}
 use borrow.Author.Tests.{eq-eqb, ne_eqb}
-use lib.Seq.{sets, length-sets, sets-eq, take_at}
+use lib.Seq.{sets}
 use Rattle.budget.specs.Refusal as refusal
 use Rattle.sheet.specs.Check.{Checked}
 use Rattle.sheet.specs.Check.{check}
@@ -17,21 +17,6 @@ use Rattle.tree.specs.Tree.{outcome_at}
 use Rattle.report.specs.Lines.{component_line, end_line, refused_line}
 use Rattle.report.specs.Listing.{Listed, component_lines, listing_of}
 use Rattle.report.specs.inner.Paged.{Lines, Paged}
-use Rattle.report.specs.inner.Put.{Put}
-
--- the first bytes of a line are what was put there
-put_first : {start bytes line : List ℕ} {n : ℕ} → length start ≡ 64 → Put start 0 bytes line n → take n line ≡ bytes
-put_first {start} {bytes} {line} {n} long p =
-    let m : n ≡ length bytes = omega (arith, p.place) in
-    ap (λ (l : List ℕ). take n l) (p.line ∙ sets-eq bytes start 0 (omega (arith, p.room))) ∙ take_at bytes (drop (0 + length bytes) start) n (omega arith)
-
-pub put_within : {start bytes line : List ℕ} {n : ℕ} → length start ≡ 64 → Put start 0 bytes line n → n ≤ length line
-put_within {start} {bytes} {line} {n} long p = omega (arith, p.room, ap length p.line, length-sets start 0 bytes)
-
-pub paged : {start bytes line page after : List ℕ} {at n r : ℕ} → length start ≡ 64 → Put start 0 bytes line n → Paged page at (take n line) after r
-    → Paged page at bytes after r
-paged {start} {bytes} {line} {page} {after} {at} {n} {r} long p q =
-    subst (λ (bs : List ℕ). Paged page at bs after r) (put_first long p) q
 
 -- bytes put behind those at the front of a page are put there together
 behind : (page lines : List ℕ) {now line after : List ℕ} {at r : ℕ} → at ≡ length lines → now ≡ sets page 0 lines → Paged now at line after r → after ≡ sets page 0 (lines ++ line)

@@ -1,3 +1,2 @@
 -- What only contracts inside this crate cite. A caller's promise rests on none of it.
 pub mod Paged
-pub mod Put

@@ -1,14 +1,18 @@
 -- A scan of the jobs from the right end: what it has found behind place k, with the job at k, gives what it has found from k on.
-use Prim.Native.Nat.{ℕ, suc, ◌+◌, ◌≤◌, ◌<◌}
+use Prim.Native.Nat.{ℕ, zero, suc, ◌+◌, ◌≤◌, ◌<◌, min}
 use native.Mathlib.Nat.{add-zero}
+use native.Mathlib.Numerals.{add-one}
+use native.Mathlib.Decide.{dec_lt}
 use native.Mathlib.Omega.{arith}
 use mathlib.Core.Path.{◌≡◌, refl, sym, ap, ◌∙◌}
-use borrow.Author.Tests.{ltb-true, leb-true, leb-false, le-leb, lt-leb}
+use borrow.Author.Tests.{lt-ltb, le-ltb, ltb-true, leb-true, leb-false, le-leb, lt-leb}
 use mathlib.Core.Bool.{Bool, true, false, cond, not, ◌&&◌, ◌||◌}
-use mathlib.Core.List.{List, ◌∷◌}
+use mathlib.Core.List.{List, [], ◌∷◌, map}
 use lib.ListN.{length, get_or, drop, length-drop, drop_of_length-le}
 use lib.Seq.{drop-cons, get_or-drop}
 use lib.Dec.{leb, ltb, eqb}
+use Rattle.std.specs.List.{filter, fold, range_with_len, reduce}
+use Rattle.std.specs.Option.{unwrap_or}
 use Rattle.std.proofs.lemmas.List.{get_or-map}
 use Rattle.budget.specs.declared.task.Task.{Task}
 use Rattle.budget.specs.Limits.{most_tasks}
@@ -41,6 +45,32 @@ none_behind false m l i p first e long place =
 places : (b : Bool) (k i p first : ℕ) → suc k ≡ i → i + p ≡ first → k + cond b 0 (suc p) ≡ cond b k first
 places true k i p first e place = add-zero k
 places false k i p first e place = omega arith
+
+-- whether the job at place k is late at t
+abbrev pub late_at : List ℕ → List ℕ → ℕ → ℕ → Bool
+late_at due left t k = eqb (get_or due k 0) t && ltb 0 (get_or left k 0)
+
+-- the least of some task numbers, or the number that stands for none
+abbrev pub lowest : List ℕ → ℕ
+lowest xs = unwrap_or (reduce min xs) most_tasks
+
+folded : (a x : ℕ) (xs : List ℕ) → fold min (min a x) xs ≡ min x (fold min a xs)
+folded a x [] = omega arith
+folded a x (y ∷ xs) = ap (λ (m : ℕ). fold min m xs) {x = min (min a x) y} {y = min (min a y) x} (omega arith) ∙ folded (min a y) x xs
+
+lower : (x m : ℕ) → Dec (x < m) → min x m ≡ cond (ltb x m) x m
+lower x m (yes h) = rw (lt-ltb x m h) (omega arith)
+lower x m (no h) = rw (le-ltb x m (omega arith)) (omega arith)
+
+lowest_more : (x : ℕ) (xs : List ℕ) → x < most_tasks → lowest (x ∷ xs) ≡ cond (ltb x (lowest xs)) x (lowest xs)
+lowest_more x [] h = rw (lt-ltb x most_tasks h)
+lowest_more x (y ∷ xs) h =
+    ap (λ (m : ℕ). fold min m xs) {x = min x y} {y = min y x} (omega arith) ∙ folded y x xs ∙ lower x (fold min y xs) (dec_lt x (fold min y xs))
+
+lowest_if : (f : ℕ → ℕ) (b : Bool) (k : ℕ) (ks : List ℕ) → f k < most_tasks
+    → lowest (map f (cond b (k ∷ ks) ks)) ≡ cond (b && ltb (f k) (lowest (map f ks))) (f k) (lowest (map f ks))
+lowest_if f true k ks h = lowest_more (f k) (map f ks) h
+lowest_if f false k ks h = refl
 
 -- a job that takes over waits, so it has work left
 pub taken_waits : (due ts ready left : List ℕ) (n k first : ℕ) → takes_over due ts ready left n k first ≡ true → 0 < get_or left k 0
@@ -102,3 +132,11 @@ module _ (ks : List Task) (jobs : Jobs) (even : OneLength jobs) (due left : List
         let p = next ks n (drop i (jobs_in jobs)) (drop i left) in
         rw (cut (jobs_in jobs) k i no_job e (omega (arith, count jobs even)), cut left k i 0 e h, heads n first p found)
         (places (takes_over due jobs.tasks.now jobs.ready.now left n k first) k i p first e found)
+
+  -- the lowest of the late tasks is the least of their numbers
+  pub late_least : ((k : ℕ) → k < length jobs.tasks.now → get_or jobs.tasks.now k 0 < most_tasks) → (t k n : ℕ) → k + n ≡ length left
+      → lowest (map (λ i. get_or jobs.tasks.now i 0) (filter (late_at due left t) (range_with_len k n))) ≡ late_task ks t (drop k (jobs_in jobs)) (drop k left)
+  late_least numbered t k zero e = sym (late_end t k (omega arith))
+  late_least numbered t k (suc n) e =
+      lowest_if (λ i. get_or jobs.tasks.now i 0) (late_at due left t k) k (filter (late_at due left t) (range_with_len (k + 1) n)) (numbered k (omega arith))
+      ∙ rw (late_least numbered t (k + 1) n (omega arith)) (sym (late_step k (k + 1) (sym (add-one k)) (omega arith) t _ refl))

@@ -4,7 +4,7 @@ ghost use Rattle.std.specs.Int.Signed.{le_z, lt_z};
 ghost use Rattle.budget.specs.declared.task.Task.{Task};
 ghost use Rattle.budget.specs.Task.{T, C, J};
 ghost use Rattle.run.specs.inner.Columns.{OneLength, Timely, job_in, jobs_in};
-ghost use Rattle.run.specs.Job.{from_zero, task_of, deadline, valid_job, before_all, legal_arrival, no_job};
+ghost use Rattle.run.specs.Job.{from_zero, task_of, deadline, in_order, valid_job, before_all, legal_arrival, no_job};
 ghost use Rattle.run.specs.Walk.{released_before, valid_jobs};
 
 use budget::task::Task;
@@ -48,8 +48,9 @@ impl Job {
     }
 
     // Whether a later job is sorted behind it: by release, and those of one release by task.
+    #[tactic(auto, unfolding(crate::specs::Job::in_order))]
     fn is_in_order(self, later: Job) -> bool
-        ensures { result ≡ (lt_z self.release later.release || (le_z self.release later.release && leb self.task later.task)) }
+        ensures { result ≡ in_order (job_in self) (job_in later) }
     {
         self.release < later.release || (self.release == later.release && self.task <= later.task)
     }
@@ -64,7 +65,7 @@ impl Job {
 
     // Whether it goes before a later job, the period of its task between their releases if that is of its task too.
     fn is_before(self, later: Job, period: u32) -> bool
-        ensures { result ≡ ((lt_z self.release later.release || (le_z self.release later.release && leb self.task later.task)) && (not (eqb self.task later.task) || le_z (self.release +ℤ pos period) later.release)) }
+        ensures { result ≡ (in_order (job_in self) (job_in later) && (not (eqb self.task later.task) || le_z (self.release +ℤ pos period) later.release)) }
     {
         self.is_in_order(later) && self.is_apart(later, period)
     }
@@ -98,12 +99,7 @@ impl Jobs<'_> {
         ensures { (ks : List Task) → T (task_of ks (get_or (jobs_in self.now) i no_job)) ≡ period → result ≡ before_all ks (get_or (jobs_in self.now) i no_job) (drop (suc i) (jobs_in self.now)) }
     {
         let job = self.at(i);
-        for k in i + 1..self.tasks.len() {
-            if !job.is_before(self.at(k), period) {
-                return false;
-            }
-        }
-        true
+        (i + 1..self.tasks.len()).all(|k| job.is_before(self.at(k), period))
     }
 
     // Whether the job at place i keeps the rules: its task is there, its work is 1 to C, it is ready in time, and the jobs after it are in order
@@ -124,12 +120,7 @@ impl Jobs<'_> {
         requires { OneLength self.now }
         ensures { result ≡ legal_arrival table.now (jobs_in self.now) }
     {
-        for i in 0..self.tasks.len() {
-            if !self.is_legal_at(table, i) {
-                return false;
-            }
-        }
-        true
+        (0..self.tasks.len()).all(|i| self.is_legal_at(table, i))
     }
 
     // Whether each job is released before the trace ends.
@@ -141,8 +132,8 @@ impl Jobs<'_> {
             .all(|&release| release < 0 || (release as usize) < end)
     }
 
-    #[tactic(auto, unfolding(crate::specs::Walk::valid_jobs))]
     // Whether the jobs keep the rules of the run, on a trace that ends at that instant.
+    #[tactic(auto, unfolding(crate::specs::Walk::valid_jobs))]
     pub(crate) fn is_valid(&self, table: &[Task], end: usize) -> bool
         ensures { result ≡ valid_jobs table.now self.now.tasks.now self.now.releases.now self.now.ready.now self.now.works.now end }
     {

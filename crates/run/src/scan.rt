@@ -66,33 +66,16 @@ impl Timed<'_> {
         first
     }
 
-    // Whether the job at place i is late at instant t, and of a lower task than the lowest late one behind it.
-    fn is_lower_late(&self, left: &[u32], t: u32, i: usize, lowest: Option<u32>) -> bool
-        requires { (length left.now ≡ length self.now.due.now) × (i < length left.now) }
-        ensures { result ≡ ((eqb (get_or self.now.due.now i 0) t && ltb 0 (get_or left.now i 0)) && ltb (get_or self.now.jobs.tasks.now i 0) (unwrap_or lowest most_tasks)) }
-    {
-        if self.due[i] != t || left[i] == 0 {
-            return false;
-        }
-        match lowest {
-            Some(lowest) => self.jobs.tasks[i] < lowest,
-            None => true,
-        }
-    }
-
     // The lowest task number of the jobs late at instant t.
     pub(crate) fn late_task(&self, left: &[u32], t: u32) -> Option<u32>
         requires { length left.now ≡ length self.now.due.now }
         ensures value { (ks : List Task) → Deadlines ks (jobs_in self.now.jobs) self.now.due.now → unwrap_or result most_tasks ≡ late_task ks t (jobs_in self.now.jobs) left.now }
         ensures numbered { IfSome result (λ k. k < most_tasks) }
     {
-        let mut lowest = None;
-        for i in (0..left.len()).rev() {
-            if self.is_lower_late(left, t, i, lowest) {
-                lowest = Some(self.jobs.tasks[i]);
-            }
-        }
-        lowest
+        (0..left.len())
+            .filter(|&i| self.due[i] == t && 0 < left[i])
+            .map(|i| self.jobs.tasks[i])
+            .min()
     }
 
     // Slot n with its trace byte: the work left after it, and what it gave.

@@ -70,10 +70,10 @@ fn walk_slots(timed: &Timed, trace: &[u8], left: &mut [u32]) -> Walked
 }
 
 // The walk of what is accepted: each deadline once, the whole work as the work left, then slot by slot.
-fn walk_accepted(table: Table, jobs: &Jobs, trace: &[u8], left: &mut [u32]) -> Walked
-    requires { walk_refusal table jobs.now.tasks.now jobs.now.releases.now jobs.now.ready.now jobs.now.works.now trace.now (length left.old) ≡ none }
-    ensures value { walked_in (Ok result) ≡ walk_answer table jobs.now.tasks.now jobs.now.releases.now jobs.now.ready.now jobs.now.works.now trace.now (length left.old) }
-    ensures leaves { left.new ≡ left_after table jobs.now.tasks.now jobs.now.releases.now jobs.now.ready.now jobs.now.works.now trace.now left.old }
+fn walk_accepted(table: &Table, jobs: &Jobs, trace: &[u8], left: &mut [u32]) -> Walked
+    requires { walk_refusal table.now jobs.now.tasks.now jobs.now.releases.now jobs.now.ready.now jobs.now.works.now trace.now (length left.old) ≡ none }
+    ensures value { walked_in (Ok result) ≡ walk_answer table.now jobs.now.tasks.now jobs.now.releases.now jobs.now.ready.now jobs.now.works.now trace.now (length left.old) }
+    ensures leaves { left.new ≡ left_after table.now jobs.now.tasks.now jobs.now.releases.now jobs.now.ready.now jobs.now.works.now trace.now left.old }
 {
     let mut room = [0u32; MOST];
     let due = &mut room[..jobs.tasks.len()];
@@ -84,10 +84,10 @@ fn walk_accepted(table: Table, jobs: &Jobs, trace: &[u8], left: &mut [u32]) -> W
 
 // The refusal of a walk: the table's, then that of the jobs, of the trace, and of the room for the work left.
 #[tactic(auto, unfolding(crate::specs::Walk::walk_refusal, crate::specs::Walk::valid_trace))]
-fn check_walk(table: Table, jobs: &Jobs, trace: &[u8], room: usize) -> Result<(), Refusal>
-    ensures { number_in result ≡ walk_refusal table jobs.now.tasks.now jobs.now.releases.now jobs.now.ready.now jobs.now.works.now trace.now room }
+fn check_walk(table: &Table, jobs: &Jobs, trace: &[u8], room: usize) -> Result<(), Refusal>
+    ensures { number_in result ≡ walk_refusal table.now jobs.now.tasks.now jobs.now.releases.now jobs.now.ready.now jobs.now.works.now trace.now room }
 {
-    check_table(table)?;
+    check_table(*table)?;
     if !jobs.is_valid(table.tasks(), trace.len()) {
         return Err(Refusal::Jobs);
     }
@@ -106,6 +106,6 @@ pub fn walk(table: Table, jobs: Jobs, trace: &[u8], left: &mut [u32]) -> Result<
     ensures value { walked_in result ≡ walk_answer table jobs.entry.tasks.now jobs.entry.releases.now jobs.entry.ready.now jobs.entry.works.now trace.now (length left.old) }
     ensures leaves { left.new ≡ left_after table jobs.entry.tasks.now jobs.entry.releases.now jobs.entry.ready.now jobs.entry.works.now trace.now left.old }
 {
-    check_walk(table, &jobs, trace, left.len())?;
-    Ok(walk_accepted(table, &jobs, trace, left))
+    check_walk(&table, &jobs, trace, left.len())?;
+    Ok(walk_accepted(&table, &jobs, trace, left))
 }

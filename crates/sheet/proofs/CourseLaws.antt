@@ -1,6 +1,6 @@
 -- What the walk over pairs holds says all that the next record is judged by, at its start and behind each record: a parent holds its own tasks and
 -- its children so far.
-use Prim.Native.Nat.{ℕ, suc, ◌+◌, ◌-◌, ◌≤◌, ◌<◌}
+use Prim.Native.Nat.{ℕ, ◌+◌, ◌-◌, ◌≤◌, ◌<◌}
 use mathlib.Core.Path.{◌≡◌, refl, sym, ap, ◌∙◌}
 use mathlib.Core.Bool.{Bool, true, false, ◌&&◌}
 use mathlib.Core.List.{List, [], ◌∷◌, ◌++◌}
@@ -11,28 +11,26 @@ use lib.Dec.{leb, ltb, eqb}
 use borrow.Author.Tests.{leb-true, leb-false, le-leb, lt-leb, lt-ltb, le-ltb, eqb-true, eqb-false}
 use Rattle.std.specs.Prelude.{Some, is_some}
 use Rattle.std.proofs.lemmas.List.{length-map}
-use Rattle.budget.specs.declared.refusal.Refusal.TheVariants as refusal
-use Rattle.budget.proofs.Valid.{both, and_true}
+use Rattle.budget.proofs.Valid.{and_true}
 use Rattle.record.specs.declared.layout.Pair.{Pair}
 use Rattle.record.specs.Record.{Record, PairRecord}
 use Rattle.record.specs.Layout.{size_of, record_of}
 use Rattle.record.proofs.Cases.{either}
-use Rattle.sheet.specs.declared.judging.State.{State}
 use Rattle.sheet.specs.declared.pairs.Course.{Course}
+use Rattle.sheet.specs.declared.walk.Noted.{Noted}
 use Rattle.sheet.specs.Register.{Entry}
-use Rattle.sheet.specs.Pairs.{Pairing, registered, own_tasks, named, rises, pairs, pair_refusal, stopped, after_pair, pair_judged, pair_step}
+use Rattle.sheet.specs.Pairs.{Pairing, own_tasks, named, rises, pairs, pair_refusal, stopped, after_pair, pair_judged, pair_step}
 use Rattle.sheet.specs.inner.PairCourse.{entry_in, entries_in, found, Kept}
 use Rattle.sheet.proofs.WalkLaws.{rest_is}
-use Rattle.sheet.proofs.PairLaws.{PairTaken, pair_taken}
 use Rattle.sheet.proofs.NestedLaws.{named_append, named_one, rises_append}
-use Rattle.sheet.proofs.SoughtLaws.{Numbered, found_within, found_number, found_once, found_set, found_registered, found_tasks}
+use Rattle.sheet.proofs.SoughtLaws.{Numbered, found_within, found_once, found_set, found_registered, found_tasks}
 
 and_false : (a : Bool) {b : Bool} → b ≡ false → (a && b) ≡ false
 and_false true e = e
 and_false false e = refl
 
 -- before the first pair
-pub kept_first : (cs : List State) (at : ℕ) → Numbered cs
+pub kept_first : (cs : List Noted) (at : ℕ) → Numbered cs
     → Kept cs (entries_in cs) (record { place = at; lowest = 0 }) (record { going = true; refusal = 0; place = at; pairs = [] })
 unfolding rises named
 kept_first cs at h =
@@ -45,7 +43,7 @@ kept_first cs at h =
       load = λ n k d e. found_tasks cs h n k d e ∙ omega arith;
     }
 
-module _ (cs : List State) (es : List Entry) (c : Course) (st : Pairing) (w : Kept cs es c st) (p : Pair) where
+module _ (cs : List Noted) (es : List Entry) (c : Course) (st : Pairing) (w : Kept cs es c st) (p : Pair) where
   -- the tests of a pair are those of the rules
   tests : pairs es st.pairs p ≡ ((ltb p.child p.parent && leb c.lowest p.child) && (is_some (found cs p.child) && is_some (found cs p.parent)))
   unfolding pairs
@@ -70,7 +68,7 @@ module _ (cs : List State) (es : List Entry) (c : Course) (st : Pairing) (w : Ke
       refused (rw (tests, e) (and_false (ltb p.child p.parent && leb c.lowest p.child) (and_false (is_some (found cs p.child)) refl)))
 
   -- a pair of two components that keeps the rules of pairs
-  module _ (at : ℕ) (d : State) (larger : p.child < p.parent) (rise : c.lowest ≤ p.child) (child : is_some (found cs p.child) ≡ true) (here : found cs p.parent ≡ Some at) where
+  module _ (at : ℕ) (d : Noted) (larger : p.child < p.parent) (rise : c.lowest ≤ p.child) (child : is_some (found cs p.child) ≡ true) (here : found cs p.parent ≡ Some at) where
     load_is : (get_or cs at d).tasks ≡ own_tasks es p.parent + named st.pairs p.parent
     load_is = w.load p.parent at d here
 
@@ -83,7 +81,7 @@ module _ (cs : List State) (es : List Entry) (c : Course) (st : Pairing) (w : Ke
     pair_full h = rw (right, ← load_is, le-leb 64 (get_or cs at d).tasks h)
 
     -- it is taken, and its parent holds one more
-    module _ (room : (get_or cs at d).tasks < 64) (now : State) (same : now.lowest ≡ (get_or cs at d).lowest) (more : now.tasks ≡ (get_or cs at d).tasks + 1) where
+    module _ (room : (get_or cs at d).tasks < 64) (now : Noted) (same : now.lowest ≡ (get_or cs at d).lowest) (more : now.tasks ≡ (get_or cs at d).tasks + 1) where
       taken : pair_judged es st (PairRecord p) 0 ≡ after_pair st p
       unfolding pair_judged pair_refusal
       taken = rw (right, ← load_is, lt-leb 64 (get_or cs at d).tasks room)
@@ -97,7 +95,7 @@ module _ (cs : List State) (es : List Entry) (c : Course) (st : Pairing) (w : Ke
           (λ q. let h = leb-false (p.child + 1) n q in
           q ∙ sym (rises_append st.pairs (p ∷ []) n ∙ and_false (rises st.pairs n) (ap (λ (b : Bool). b && true) (le-ltb p.child n (omega arith)))))
 
-      load_behind : (n k : ℕ) (o : State) → found (set cs at now) n ≡ Some k → (get_or (set cs at now) k o).tasks ≡ own_tasks es n + named (st.pairs ++ (p ∷ [])) n
+      load_behind : (n k : ℕ) (o : Noted) → found (set cs at now) n ≡ Some k → (get_or (set cs at now) k o).tasks ≡ own_tasks es n + named (st.pairs ++ (p ∷ [])) n
       load_behind n k o e =
           let stays : found cs n ≡ Some k = sym (found_set cs n at d now same) ∙ e in
           let within = found_within cs p.parent at d here in
@@ -130,7 +128,7 @@ module _ (cs : List State) (es : List Entry) (c : Course) (st : Pairing) (w : Ke
           })
 
 -- one step, as the code takes it: what it lends is what is left from the walk's place on
-pub step_is : (s : List ℕ) (cs : List State) (es : List Entry) (c : Course) (st : Pairing) (r : Record) → Kept cs es c st
+pub step_is : (s : List ℕ) (cs : List Noted) (es : List Entry) (c : Course) (st : Pairing) (r : Record) → Kept cs es c st
     → r ≡ record_of (take (length s - c.place) (drop c.place s))
     → pair_judged es st r (length (take (length s - c.place) (drop c.place s))) ≡ pair_step es s st
 unfolding pair_step

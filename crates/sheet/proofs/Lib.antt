@@ -14,3 +14,4 @@ pub mod PairCounts
 pub mod SoughtLaws
 pub mod CourseLaws
 pub mod PairWalking
+pub mod Apart

@@ -2,15 +2,15 @@
 -- goes on moves on within the bytes.
 use Prim.Native.Nat.{ℕ, zero, suc, ◌-◌, ◌≤◌, ◌<◌}
 use mathlib.Core.Path.{◌≡◌, refl, sym, ap, ◌∙◌}
-use mathlib.Core.Bool.{true, false}
+use mathlib.Core.Bool.{true}
 use mathlib.Core.List.{List, []}
 use native.Mathlib.Omega.{arith}
 use lib.ListN.{length}
-use Rattle.std.specs.Prelude.{Option, Some, None, Result, Ok, Err}
+use Rattle.std.specs.Prelude.{Some, None, Ok, Err}
 use Rattle.budget.specs.declared.refusal.Refusal.{Refusal}
 use Rattle.budget.specs.Refusal.{number_of}
-use Rattle.sheet.specs.declared.judging.State.{State}
 use Rattle.sheet.specs.declared.pairs.Course.{Course}
+use Rattle.sheet.specs.declared.walk.Noted.{Noted}
 use Rattle.sheet.specs.Register.{Entry}
 use Rattle.sheet.specs.Pairs.{Pairing, stopped, pair_step, pair_walk, paired_from}
 use Rattle.sheet.specs.inner.PairCourse.{entries_in, Kept, Turns, Walkable, Ends}
@@ -19,7 +19,7 @@ use Rattle.sheet.proofs.CourseLaws.{kept_first}
 
 module _ (s : List ℕ) (es : List Entry) (start : ℕ) where
   -- where the loop stands after some steps
-  pub record PairWalking (cs : List State) (c : Course) : Type 0 where
+  pub record PairWalking (cs : List Noted) (c : Course) : Type 0 where
     pub st : Pairing
     pub more : ℕ
     pub state : paired_from es s start ≡ pair_walk es more s st
@@ -27,7 +27,7 @@ module _ (s : List ℕ) (es : List Entry) (start : ℕ) where
     pub enough : length s - st.place < more
     pub place : st.place ≤ length s
 
-  module _ (cs : List State) (c : Course) (w : PairWalking cs c) where
+  module _ (cs : List Noted) (c : Course) (w : PairWalking cs c) where
     pub here : c.place ≤ length s
     here = rw w.kept.place w.place
 
@@ -35,7 +35,7 @@ module _ (s : List ℕ) (es : List Entry) (start : ℕ) where
     stepping : (more : ℕ) → w.more ≡ suc more → paired_from es s start ≡ pair_walk es more s (pair_step es s w.st)
     stepping more m = w.state ∙ (ap (λ (n : ℕ). pair_walk es n s w.st) m ∙ pair_walk_on es s more w.st w.kept.going)
 
-    module _ (after : List State) where
+    module _ (after : List Noted) where
       turned : (next : Course) → Kept after es next (pair_step es s w.st) → (more : ℕ) → w.more ≡ more → PairWalking after next
       turned next k zero m = let l = w.enough in absurd (omega arith)
       turned next k (suc more) m =
@@ -78,7 +78,7 @@ module _ (s : List ℕ) (es : List Entry) (start : ℕ) where
           let e = stopping (number_of r) (f es w.st w.kept) w.more refl in
           (ap (λ (x : Pairing). x.refusal) e, ap (λ (x : Pairing). x.place) e ∙ sym w.kept.place)
 
-pub begun : (s : List ℕ) (cs : List State) (start : ℕ) → Walkable s cs start → PairWalking s (entries_in cs) start cs (record { place = start; lowest = 0 })
+pub begun : (s : List ℕ) (cs : List Noted) (start : ℕ) → Walkable s cs start → PairWalking s (entries_in cs) start cs (record { place = start; lowest = 0 })
 unfolding paired_from
 begun s cs start w =
     record {

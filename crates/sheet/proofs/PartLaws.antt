@@ -6,7 +6,7 @@ use native.Mathlib.Omega.{arith}
 use lib.ListN.{length, get_or, take, drop}
 use lib.Dec.{ltb, eqb}
 use borrow.Author.Tests.{lt-ltb, le-ltb, ltb-true, eqb-false, ne_eqb}
-use Rattle.std.specs.Prelude.{Result, Ok, Err}
+use Rattle.std.specs.Prelude.{Ok, Err}
 use Rattle.budget.specs.declared.refusal.Refusal.TheVariants.{Place}
 use Rattle.budget.proofs.Refusals.{some}
 use Rattle.record.proofs.Cases.{cases}
@@ -15,7 +15,7 @@ use Rattle.sheet.specs.declared.fault.Fault.{Fault}
 use Rattle.sheet.specs.declared.part.Span.{Span}
 use Rattle.sheet.specs.Check.{Checked, check}
 use Rattle.sheet.specs.Contents.{Contents, edge_of, contents_of}
-use Rattle.sheet.specs.Part.{Located, chosen, part_check, span_of, located, part_of}
+use Rattle.sheet.specs.Part.{chosen, part_check, span_of, located, part_of}
 use Rattle.sheet.specs.Answered.{checked_in, contents_in, located_in}
 use Rattle.sheet.proofs.ContentsLaws.{edge_within, edge_rises, taken, edges_are}
 

@@ -1,29 +1,28 @@
--- The components as the walk over the pairs is given them: what the first walk holds of each is its entry, so that walk's answer is the sheet's.
+-- The components as the walk over the pairs is given them: what the first walk notes of each is its entry, so that walk's answer is the sheet's.
 use Prim.Native.Nat.{ℕ, zero, suc, ◌+◌, ◌≤◌, ◌<◌}
-use mathlib.Core.Path.{◌≡◌, refl, sym, ap, ◌∙◌}
-use mathlib.Core.Bool.{cond}
-use mathlib.Core.List.{List, map}
+use mathlib.Core.Path.{◌≡◌, refl, ap, ◌∙◌}
+use mathlib.Core.List.{List}
 use native.Mathlib.Omega.{arith}
-use lib.Dec.{eqb}
 use lib.ListN.{length, get_or, take, drop}
 use lib.Seq.{drop-cons}
 use borrow.Author.Tests.{ne_eqb}
-use Rattle.std.specs.Prelude.{Result, Ok, Err}
-use Rattle.std.proofs.lemmas.List.{get_or-drop, get_or-take, get_or-map, length-map, length-take}
+use Rattle.std.specs.Prelude.{Ok, Err}
+use Rattle.std.proofs.lemmas.List.{get_or-drop, get_or-take, length-take}
 use Rattle.budget.proofs.Refusals.{some}
 use Rattle.sheet.specs.declared.contents.Contents as contents
 use Rattle.sheet.specs.declared.fault.Fault.{Fault}
-use Rattle.sheet.specs.declared.judging.State as judging
+use Rattle.sheet.specs.declared.walk.Noted.{Noted}
 use Rattle.sheet.specs.declared.walk.Walked.{Walked}
 use Rattle.sheet.specs.Judging.{State, refuse, ended}
-use Rattle.sheet.specs.Register.{walked, held_of, entry_of, entries_from, register_of}
-use Rattle.sheet.specs.Pairs.{Pairing, paired_from, paired}
-use Rattle.sheet.specs.Check.{Checked, checked_of, check}
-use Rattle.sheet.specs.Contents.{edges_of, no_edges, contents_of}
+use Rattle.sheet.specs.Register.{walked, entry_of, entries_from, register_of}
+use Rattle.sheet.specs.Pairs.{paired_from, paired}
+use Rattle.sheet.specs.Check.{checked_of, check}
+use Rattle.sheet.specs.Contents.{edges_of, contents_of}
 use Rattle.sheet.specs.Answered.{checked_in, contents_in}
-use Rattle.sheet.specs.inner.Noted.{lowest_of, tasks_noted, Found, Refused}
+use Rattle.sheet.specs.inner.Noted.{Found, Refused}
 use Rattle.sheet.specs.inner.PairCourse.{entries_in, Walkable, Ends}
-use Rattle.sheet.proofs.HeldLaws.{noted_held, noted_long, walked_few, walked_within, unrefused_short, count_held, numbered_held}
+use Rattle.sheet.proofs.Walking.{unnoted}
+use Rattle.sheet.proofs.HeldLaws.{walked_few, walked_within, unrefused_short, count_held, numbered_held}
 
 -- a refused sheet
 module _ (s : List ℕ) (f : Fault) where
@@ -55,40 +54,21 @@ module _ (s : List ℕ) (w : Walked) (f : Found s w) where
   pub few : w.state.count ≤ 256
   few = let h = walked_few s in let e = counted in omega arith
 
-  pub long : length w.held ≡ 257
-  unfolding edges_of
-  long = sym (length-map w.held (λ (x : judging.State). x.place)) ∙ (ap length f.edges ∙ noted_long (λ (x : State). x.place) s)
-
-  module _ (k : ℕ) (d : judging.State) (h : k < (walked s).count) where
-    inside : suc k < length w.held
-    inside = omega (arith, walked_few s, long)
-
-    lowest_at : (get_or w.held (suc k) d).lowest ≡ (held_of s (suc k)).lowest
-    unfolding lowest_of
-    lowest_at =
-        sym (get_or-map (λ (x : judging.State). x.lowest) w.held (suc k) d 0 inside)
-        ∙ (ap (λ (l : List ℕ). get_or l (suc k) 0) f.lowest ∙ noted_held (λ (x : State). x.lowest) s (suc k) (omega (arith, walked_few s)) (omega arith))
-
-    tasks_at : (get_or w.held (suc k) d).tasks ≡ (held_of s (suc k)).tasks
-    unfolding tasks_noted
-    tasks_at =
-        sym (get_or-map (λ (x : judging.State). x.tasks) w.held (suc k) d 0 inside)
-        ∙ (ap (λ (l : List ℕ). get_or l (suc k) 0) f.tasks ∙ noted_held (λ (x : State). x.tasks) s (suc k) (omega (arith, walked_few s)) (omega arith))
-
-  entries_are : (n k : ℕ) → k + n ≤ (walked s).count → entries_in (take n (drop (suc k) w.held)) ≡ entries_from s n k
+  entries_are : (n k : ℕ) → k + n ≤ w.state.count → entries_in (take n (drop (suc k) w.components)) ≡ entries_from s n k
   unfolding entries_from entry_of
   entries_are zero k h = refl
   entries_are (suc n) k h =
-      rw (drop-cons w.held (suc k) w.state (inside k w.state (omega arith)), lowest_at k w.state (omega arith), tasks_at k w.state (omega arith), entries_are n (suc k) (omega arith))
+      let i : suc k < length w.components = omega (arith, few, f.long) in
+      rw (drop-cons w.components (suc k) unnoted i, f.noted (suc k) unnoted (omega arith), entries_are n (suc k) (omega arith))
 
-  -- what the walk over the pairs is lent: as many states as components, behind the first
+  -- what the walk over the pairs is lent: as much as there are components, behind the first
   module _ (n : ℕ) (e : n ≡ w.state.count) where
-    abbrev lent : List judging.State
-    lent = take n (drop 1 w.held)
+    abbrev lent : List Noted
+    lent = take n (drop 1 w.components)
 
     register_is : entries_in lent ≡ register_of s
     unfolding register_of
-    register_is = let c = counted in rw counted (rw (← e) (entries_are n 0 (omega arith)))
+    register_is = rw (counted, ← e) (entries_are n 0 (omega arith))
 
     pub walkable : Walkable s lent w.state.place
     walkable =
@@ -96,12 +76,12 @@ module _ (s : List ℕ) (w : Walked) (f : Found s w) where
           within = rw (← placed) (walked_within s);
           short = unrefused_short s unrefused;
           numbered = λ k d h.
-              let l = length-take n (drop 1 w.held) in
+              let l = length-take n (drop 1 w.components) in
               let i : k < (walked s).count = omega (arith, counted) in
               let j : 1 + k ≡ suc k = omega arith in
-              let at : get_or lent k d ≡ get_or w.held (suc k) d =
-              get_or-take n (drop 1 w.held) k d (omega arith) ∙ (get_or-drop 1 w.held k d ∙ ap (λ (m : ℕ). get_or w.held m d) j) in
-              rw (at, lowest_at k d i) (numbered_held s (suc k) (omega (arith, count_held s (suc k) (omega arith))));
+              let at : get_or lent k d ≡ get_or w.components (suc k) d =
+              get_or-take n (drop 1 w.components) k d (omega arith) ∙ (get_or-drop 1 w.components k d ∙ ap (λ (m : ℕ). get_or w.components m d) j) in
+              rw (at, f.noted (suc k) d (omega arith)) (numbered_held s (suc k) (omega (arith, count_held s (suc k) (omega arith))));
         }
 
     paired_is : paired_from (entries_in lent) s w.state.place ≡ paired s

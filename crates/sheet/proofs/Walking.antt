@@ -1,60 +1,47 @@
 -- The loop of the walk: behind each step the walk still to come is the same, and what was passed is noted.
 use Prim.Native.Nat.{ℕ, zero, suc, ◌-◌, ◌≤◌, ◌<◌}
-use mathlib.Core.Path.{◌≡◌, refl, sym, ap, ◌∙◌}
-use mathlib.Core.Bool.{true, false}
-use mathlib.Core.List.{List, map, ◌∷◌}
+use mathlib.Core.Path.{◌≡◌, refl, sym, ap, ap₂, ◌∙◌}
+use mathlib.Core.Bool.{false}
+use mathlib.Core.List.{List}
 use native.Mathlib.Omega.{arith}
 use lib.ListN.{length, set, replicate}
-use Rattle.std.specs.Prelude.{Option, Some, None, Result, Ok, Err}
-use Rattle.std.proofs.lemmas.List.{map-set}
+use Rattle.std.specs.Prelude.{Some, None, Ok, Err}
 use Rattle.budget.specs.declared.refusal.Refusal.{Refusal}
 use Rattle.budget.specs.Refusal.{number_of}
 use Rattle.sheet.specs.declared.fault.Fault.{Fault}
 use Rattle.sheet.specs.declared.judging.State as judging
+use Rattle.sheet.specs.declared.walk.Noted.{Noted}
 use Rattle.sheet.specs.Judging.{State, most_bytes, refuse, ended, opened, judged}
 use Rattle.sheet.specs.Walk.{step, walk, held, Onward}
-use Rattle.sheet.specs.Register.{walked, held_of, noted as all_noted}
+use Rattle.sheet.specs.Register.{walked, held_of}
 use Rattle.sheet.specs.Contents.{edges_of}
 use Rattle.sheet.specs.Answered.{state_in, opened_in, step_in}
-use Rattle.sheet.specs.inner.Noted.{lowest_of, tasks_noted, Found, Refused}
+use Rattle.sheet.specs.inner.Noted.{noted_of, Found, Refused}
 use Rattle.sheet.proofs.JudgingLaws.{orderly, Begins, opens}
-use Rattle.sheet.proofs.Noting.{Noting, noting_begun, noting_again, noting_over}
+use Rattle.sheet.proofs.Noting.{Noting, noting_begun, noting_again, noting_held, noting_over}
 use Rattle.sheet.proofs.WalkLaws.{walk_on, walk_stopped, held_on, held_here, step_advances}
 
--- a number of each state held
-abbrev pub column : (State → ℕ) → List judging.State → List ℕ
-column f sts = map (λ (st : judging.State). f (state_in st)) sts
+-- nothing noted
+abbrev pub unnoted : Noted
+unnoted = record { lowest = 0; tasks = 0 }
 
--- the numbers of a state that are noted
 abbrev places : State → ℕ
 places st = st.place
 
-abbrev lowests : State → ℕ
-lowests st = st.lowest
-
-abbrev counts : State → ℕ
-counts st = st.tasks
-
 -- where the loop stands after some steps: what is still to come gives the answer
-pub record Walking (s : List ℕ) (sts : List judging.State) (st : judging.State) : Type 0 where
+pub record Walking (s edges : List ℕ) (components : List Noted) (st : judging.State) : Type 0 where
   pub more : ℕ
   pub state : walked s ≡ walk judged more s (state_in st)
   pub ahead : (k : ℕ) → st.count ≤ k → held_of s k ≡ held judged more s k (state_in st)
-  pub noted_edges : Noting places s (column places sts) (state_in st)
-  pub noted_lowest : Noting lowests s (column lowests sts) (state_in st)
-  pub noted_tasks : Noting counts s (column counts sts) (state_in st)
+  pub edged : Noting places 0 s edges (state_in st)
+  pub noted : Noting noted_of unnoted s components (state_in st)
   pub enough : length s - st.place < more
   pub place : st.place ≤ length s
   pub few : st.count ≤ 256
   pub short : length s ≤ most_bytes
 
 module _ (s : List ℕ) where
-  -- before the first record
-  same : (f : State → ℕ) (st : judging.State) (n : ℕ) → f (state_in st) ≡ 0 → column f (replicate n st) ≡ replicate n 0
-  same f st zero z = refl
-  same f st (suc n) z = rw (z, same f st n z)
-
-  pub begun : (st : judging.State) → opened_in (Ok st) ≡ opened (length s) → Walking s (replicate 257 st) st
+  pub begun : (st : judging.State) → opened_in (Ok st) ≡ opened (length s) → Walking s (replicate 257 0) (replicate 257 unnoted) st
   unfolding walked held_of
   begun st e =
       let b : Begins (length s) (state_in st) = rw (← e) at (opens (length s)) in
@@ -62,9 +49,8 @@ module _ (s : List ℕ) where
         more = suc (length s);
         state = rw e;
         ahead = λ k h. rw e;
-        noted_edges = noting_begun places s _ (state_in st) (same places st 257 b.place) b.count b.place;
-        noted_lowest = noting_begun lowests s _ (state_in st) (same lowests st 257 b.lowest) b.count b.lowest;
-        noted_tasks = noting_begun counts s _ (state_in st) (same counts st 257 b.tasks) b.count b.tasks;
+        edged = noting_begun places 0 s (state_in st) b.count b.place;
+        noted = noting_begun noted_of unnoted s (state_in st) b.count (ap₂ (λ (n m : ℕ). record { lowest = n; tasks = m }) b.lowest b.tasks);
         enough = omega (arith, b.place);
         place = omega (arith, b.place);
         few = omega (arith, b.count);
@@ -78,7 +64,7 @@ module _ (s : List ℕ) where
       record { number = rw (← e) (ap (λ (x : State). x.refusal) stays); place = rw (← e) (ap (λ (x : State). x.place) stays) }
 
   -- behind a step
-  module _ (sts : List judging.State) (st : judging.State) (w : Walking s sts st) where
+  module _ (edges : List ℕ) (components : List Noted) (st : judging.State) (w : Walking s edges components st) where
     stepping : (more : ℕ) → w.more ≡ more → walked s ≡ walk judged more s (state_in st)
     stepping more e = w.state ∙ ap (λ (n : ℕ). walk judged n s (state_in st)) e
 
@@ -86,21 +72,15 @@ module _ (s : List ℕ) where
       onward : Onward (length s) (state_in st) (state_in next)
       onward = rw e (step_advances judged orderly s (state_in st) w.place)
 
-      noted : (f : State → ℕ) → Noting f s (column f sts) (state_in st) → (st.count < next.count → held_of s st.count ≡ state_in st)
-          → Noting f s (column f (set sts next.count next)) (state_in next)
-      noted f n here =
-          rw map-set (noting_again f s (column f sts) (state_in st) n (state_in next) (onward.few w.few) onward.counts onward.singly here)
-
-      turned : (more : ℕ) → w.more ≡ more → Walking s (set sts next.count next) next
+      turned : (more : ℕ) → w.more ≡ more → Walking s (set edges next.count next.place) (set components next.count (noted_of (state_in next))) next
       turned zero m = let l = w.enough in absurd (omega arith)
       turned (suc more) m =
           record {
             more = more;
             state = stepping (suc more) m ∙ (walk_on judged more s (state_in st) refl ∙ ap (walk judged more s) (sym e));
             ahead = λ k l. from k (omega (arith, onward.counts)) ∙ (held_on judged more s (state_in st) k refl (rw (← e) l) ∙ ap (held judged more s k) (sym e));
-            noted_edges = noted places w.noted_edges here;
-            noted_lowest = noted lowests w.noted_lowest here;
-            noted_tasks = noted counts w.noted_tasks here;
+            edged = noting_again places 0 s edges (state_in st) w.edged (state_in next) (onward.few w.few) onward.counts onward.singly here;
+            noted = noting_again noted_of unnoted s components (state_in st) w.noted (state_in next) (onward.few w.few) onward.counts onward.singly here;
             enough = let l = w.enough in let g = onward.goes refl in let i = onward.within in omega arith;
             place = onward.within;
             few = onward.few w.few;
@@ -114,7 +94,7 @@ module _ (s : List ℕ) where
           here : st.count < next.count → held_of s st.count ≡ state_in st
           here l = from st.count (omega arith) ∙ held_here judged more s (state_in st) st.count refl (rw (← e) l)
 
-      pub again : Walking s (set sts next.count next) next
+      pub again : Walking s (set edges next.count next.place) (set components next.count (noted_of (state_in next))) next
       again = turned w.more refl
 
       pub counted : next.count ≤ 256
@@ -129,20 +109,15 @@ module _ (s : List ℕ) where
     stopping last e g (suc more) m =
         stepping (suc more) m ∙ (walk_on judged more s (state_in st) refl ∙ (ap (walk judged more s) (sym e) ∙ walk_stopped judged more s last g))
 
-    noted_last : (f : State → ℕ) → f (ended (state_in st)) ≡ f (state_in st) → Noting f s (column f sts) (state_in st) → walked s ≡ ended (state_in st) → column f sts ≡ all_noted f s
-    unfolding ended refuse
-    noted_last f z n e =
-        noting_over f s (column f sts) (ended (state_in st)) (record { behind = n.behind; here = n.here ∙ sym z; empty = n.empty; places = n.places }) (sym e)
-
-    pub over : step_in st (Ok None) ≡ step judged s (state_in st) → Found s (record { state = st; held = sts })
-    unfolding ended refuse edges_of lowest_of tasks_noted
+    pub over : step_in st (Ok None) ≡ step judged s (state_in st) → Found s (record { state = st; edges = edges; components = components })
+    unfolding ended refuse edges_of
     over e =
         let last = stopping (ended (state_in st)) e refl w.more refl in
         record {
           ends = last;
-          edges = noted_last places refl w.noted_edges last;
-          lowest = noted_last lowests refl w.noted_lowest last;
-          tasks = noted_last counts refl w.noted_tasks last;
+          edges = noting_over places s edges (state_in st) w.edged last refl;
+          noted = noting_held noted_of unnoted s components (state_in st) w.noted last refl;
+          long = w.noted.places;
         }
 
     pub refused_here : (r : Refusal) → step_in st (Err r) ≡ step judged s (state_in st) → Refused s (record { refusal = r; place = st.place })

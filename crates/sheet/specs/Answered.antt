@@ -1,5 +1,5 @@
 -- What the code answers, in the numbers of RULES 11 and 12: the refusal's number, 0 for none, and 0 for every other number of a refused answer.
-use Rattle.std.specs.Prelude.{ℕ, true, false, Option, Some, None, Result, Ok, Err}
+use Rattle.std.specs.Prelude.{ℕ, ◌≡◌, true, false, Option, Some, None, Result, Ok, Err}
 use Rattle.budget.specs.declared.refusal.Refusal.{Refusal}
 use Rattle.budget.specs.Refusal as refusal
 use Rattle.sheet.specs.declared.contents.Contents as contents
@@ -40,3 +40,16 @@ abbrev pub step_in : judging.State → Result (Option judging.State) Refusal →
 step_in st (Ok (Some next)) = state_in next
 step_in st (Ok None) = ended (state_in st)
 step_in st (Err r) = refuse (refusal.number_of r) (state_in st)
+
+-- what the contracts say of these numbers settles what is answered: no two answers have the same
+abbrev pub ChecksApart : Type 0
+ChecksApart = (a b : Result ℕ Fault) → checked_in a ≡ checked_in b → a ≡ b
+
+abbrev pub ContentsApart : Type 0
+ContentsApart = (a b : Result contents.Contents Fault) → contents_in a ≡ contents_in b → a ≡ b
+
+abbrev pub PlacesApart : Type 0
+PlacesApart = (a b : Result part.Located Fault) → located_in a ≡ located_in b → a ≡ b
+
+abbrev pub OpeningsApart : Type 0
+OpeningsApart = (a b : Result judging.State Fault) → opened_in a ≡ opened_in b → a ≡ b

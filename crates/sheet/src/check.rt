@@ -15,8 +15,8 @@ pub(crate) fn answer(sheet: &[u8], found: &Walked) -> Result<usize, Fault>
     ensures { checked_in result ≡ check sheet.now }
 {
     let count = found.state.count;
-    let mut held = found.held;
-    pair_walk(sheet, &mut held[1..=count], found.state.place)?;
+    let mut components = found.components;
+    pair_walk(sheet, &mut components[1..=count], found.state.place)?;
     Ok(count)
 }
 

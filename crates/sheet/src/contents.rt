@@ -8,6 +8,7 @@ use crate::fault::Fault;
 use crate::walk::walk;
 
 // The component at place k lies from edge k to edge k + 1; the places behind the last edge are 0.
+// The count stands beside the edges because memory is fixed.
 #[derive(Clone, Copy)]
 pub struct Contents {
     pub count: usize,
@@ -22,6 +23,6 @@ pub fn contents_of(sheet: &[u8]) -> Result<Contents, Fault>
     let count = answer(sheet, &found)?;
     Ok(Contents {
         count,
-        edges: found.held.map(|state| state.place),
+        edges: found.edges,
     })
 }

@@ -1,9 +1,9 @@
 // How the records of components and tasks are judged, each against what was read before it: the bytes of the sheet are not in sight.
-ghost use Rattle.std.specs.Prelude.{◌≡◌, ◌+◌, ◌≤◌, ◌<◌};
+ghost use Rattle.std.specs.Prelude.{◌≡◌, ◌+◌, ◌≤◌};
 ghost use Rattle.budget.specs.Refusal.{number_in};
 ghost use Rattle.record.specs.Layout.{size_of};
-ghost use Rattle.record.specs.Record.{ComponentRecord, TaskRecord, said};
-ghost use Rattle.sheet.specs.Judging.{opened, head_refusal, form_refusal, standing_refusal, after_head, after_task, judged};
+ghost use Rattle.record.specs.Record.{said};
+ghost use Rattle.sheet.specs.Judging.{opened, head_refusal, form_refusal, standing_refusal, judged};
 ghost use Rattle.sheet.specs.Answered.{opened_in, state_in, step_in};
 
 use crate::fault::Fault;
@@ -26,7 +26,7 @@ pub struct State {
     pub place: usize,
     pub count: usize,
     pub lowest: u32,
-    pub tasks: usize,
+    pub tasks: u32,
 }
 
 // Before the first record: a sheet of too many bytes is refused as a whole.
@@ -56,7 +56,7 @@ fn check_head(state: State, head: Head) -> Result<(), Refusal>
     if MOST_COMPONENTS <= state.count {
         return Err(Refusal::Components);
     }
-    if (head.number as u32) < state.lowest {
+    if u32::from(head.number) < state.lowest {
         return Err(Refusal::Number);
     }
     check_interface(Interface {
@@ -85,35 +85,10 @@ fn check_standing(state: State, task: Task, stated: bool) -> Result<(), Refusal>
     if state.count == 0 {
         return Err(Refusal::NoComponent);
     }
-    if Table::MOST <= state.tasks {
+    if Table::MOST <= state.tasks as usize {
         return Err(Refusal::Tasks);
     }
     check_form(task, stated)
-}
-
-#[tactic(auto, unfolding(crate::specs::Judging::after_head))]
-fn after_head(state: State, head: Head) -> State
-    requires { (state.place + size_of (ComponentRecord head) ≤ 65_536) × (state.count < 256) }
-    ensures { state_in result ≡ after_head (state_in state) head }
-{
-    State {
-        place: state.place + size_of(Record::Component(head)),
-        count: state.count + 1,
-        lowest: head.number as u32 + 1,
-        tasks: 0,
-    }
-}
-
-#[tactic(auto, unfolding(crate::specs::Judging::after_task))]
-fn after_task(state: State, task: Task, stated: bool) -> State
-    requires { (state.place + size_of (TaskRecord stated task) ≤ 65_536) × (state.tasks < 64) }
-    ensures { state_in result ≡ after_task (state_in state) task stated }
-{
-    State {
-        place: state.place + size_of(Record::Task { stated, task }),
-        tasks: state.tasks + 1,
-        ..state
-    }
 }
 
 // One record against the state so far: it is taken, or refused where it begins. A pair or the end record ends the components: no state
@@ -122,14 +97,24 @@ pub(crate) fn judge(state: State, record: Record) -> Result<Option<State>, Refus
     requires { state.place + size_of (said «record») ≤ 65_536 }
     ensures { step_in state result ≡ judged (state_in state) (said «record») }
 {
+    let place = state.place + size_of(record);
     match record {
         Record::Component(head) => {
             check_head(state, head)?;
-            Ok(Some(after_head(state, head)))
+            Ok(Some(State {
+                place,
+                count: state.count + 1,
+                lowest: u32::from(head.number) + 1,
+                tasks: 0,
+            }))
         }
         Record::Task { stated, task } => {
             check_standing(state, task, stated)?;
-            Ok(Some(after_task(state, task, stated)))
+            Ok(Some(State {
+                place,
+                tasks: state.tasks + 1,
+                ..state
+            }))
         }
         Record::Pair(_) | Record::End(_) => Ok(None),
     }

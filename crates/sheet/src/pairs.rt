@@ -9,7 +9,7 @@ ghost use Rattle.sheet.specs.Pairs.{ending_refusal, pair_judged, pair_step, pair
 ghost use Rattle.sheet.specs.inner.PairCourse.{Ends, Follows, Turns, Walkable, entries_in};
 
 use crate::fault::Fault;
-use crate::judging::State;
+use crate::walk::Noted;
 use budget::refusal::Refusal;
 use budget::task::Table;
 use record::layout::{Pair, Record, record_of};
@@ -22,12 +22,12 @@ pub struct Course {
     pub lowest: u32,
 }
 
-// The place of the component of a number. A component is held with one more than its number.
-fn find(components: &[State], number: u16) -> Option<usize>
-    ensures { result ≡ position (λ state. state.lowest == number + 1) components.now }
+// The place of the component of a number. A component is noted with one more than its number.
+fn find(components: &[Noted], number: u16) -> Option<usize>
+    ensures { result ≡ position (λ noted. noted.lowest == number + 1) components.now }
 {
-    let lowest = number as u32 + 1;
-    components.iter().position(|state| state.lowest == lowest)
+    let lowest = u32::from(number) + 1;
+    components.iter().position(|noted| noted.lowest == lowest)
 }
 
 // The end record counts the components, and its bytes are all that are left.
@@ -35,7 +35,7 @@ fn find(components: &[State], number: u16) -> Option<usize>
 fn check_ending(components: usize, count: u16, left: usize) -> Result<(), Refusal>
     ensures { (es : List Entry) → length es ≡ components → number_in result ≡ ending_refusal es count left }
 {
-    if count as usize != components {
+    if usize::from(count) != components {
         return Err(Refusal::End);
     }
     if left != size_of(Record::End(count)) {
@@ -45,11 +45,11 @@ fn check_ending(components: usize, count: u16, left: usize) -> Result<(), Refusa
 }
 
 // A pair is taken, and counts as one more task of its parent; or it is refused: 16, then 6 where its parent is full.
-fn take_pair(components: &mut [State], course: Course, pair: Pair) -> Result<Course, Refusal>
+fn take_pair(components: &mut [Noted], course: Course, pair: Pair) -> Result<Course, Refusal>
     requires { course.place + size_of (PairRecord pair) ≤ 65_536 }
     ensures { Follows components.old components.new course result (λ es st. pair_judged es st (PairRecord pair) 0) }
 {
-    if pair.parent <= pair.child || (pair.child as u32) < course.lowest {
+    if pair.parent <= pair.child || u32::from(pair.child) < course.lowest {
         return Err(Refusal::Pair);
     }
     if find(components, pair.child).is_none() {
@@ -58,19 +58,19 @@ fn take_pair(components: &mut [State], course: Course, pair: Pair) -> Result<Cou
     let Some(parent) = find(components, pair.parent) else {
         return Err(Refusal::Pair);
     };
-    if Table::MOST <= components[parent].tasks {
+    if Table::MOST <= components[parent].tasks as usize {
         return Err(Refusal::Tasks);
     }
     components[parent].tasks += 1;
     Ok(Course {
         place: course.place + size_of(Record::Pair(pair)),
-        lowest: pair.child as u32 + 1,
+        lowest: u32::from(pair.child) + 1,
     })
 }
 
 // One record against the course so far. A component or a task may not stand behind a pair; behind the end record no course follows.
 fn judge_behind(
-    components: &mut [State],
+    components: &mut [Noted],
     course: Course,
     record: Record,
     left: usize,
@@ -91,7 +91,7 @@ fn judge_behind(
 
 fn pair_step(
     sheet: &[u8],
-    components: &mut [State],
+    components: &mut [Noted],
     course: Course,
 ) -> Result<Option<Course>, Refusal>
     requires { (course.place ≤ length sheet.now) × (length sheet.now ≤ 65_536) }
@@ -102,8 +102,8 @@ fn pair_step(
     judge_behind(components, course, record, rest.len())
 }
 
-// Walks from behind the last component over the pairs to the end record, by the last state that was held with each component.
-pub(crate) fn pair_walk(sheet: &[u8], components: &mut [State], start: usize) -> Result<(), Fault>
+// Walks from behind the last component over the pairs to the end record, by what the first walk noted of each component.
+pub(crate) fn pair_walk(sheet: &[u8], components: &mut [Noted], start: usize) -> Result<(), Fault>
     requires { Walkable sheet.now components.old start }
     ensures { Ends result (paired_from (entries_in components.old) sheet.now start) }
 {

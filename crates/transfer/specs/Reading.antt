@@ -1,6 +1,7 @@
 -- Reading one component: its number and interface from its record, its tasks from the records behind it, and their common period.
 use Rattle.std.specs.Prelude.{ℕ, zero, suc, cond, List, [], ◌∷◌, drop, eqb, Result, Ok, Err}
 use Rattle.budget.specs.declared.component.Component.{Component}
+use Rattle.budget.specs.declared.right.Known.{Known}
 use Rattle.budget.specs.declared.task.Task.{Task}
 use Rattle.budget.specs.Common.{common_of}
 use Rattle.budget.specs.Component.{refused}
@@ -20,8 +21,8 @@ pub record Reading : Type 0 where
   pub component : Component
 
 -- how the code's answer is read as such
-abbrev pub reading_in : Result Component Fault → Reading
-reading_in (Ok c) = record { refusal = refusal.none; place = 0; component = c }
+abbrev pub reading_in : Result Known Fault → Reading
+reading_in (Ok c) = record { refusal = refusal.none; place = 0; component = c.component }
 reading_in (Err f) = record { refusal = refusal.number_of f.refusal; place = f.place; component = refused }
 
 -- a task record's task and those behind it; any other record ends them

@@ -1,6 +1,7 @@
 // Reading a component: by its place among the components, from its part alone, or between edges that are known.
 ghost use Rattle.std.specs.Prelude.{◌≡◌, ◌≤◌, length, drop};
 ghost use Rattle.budget.specs.Common.{common_of};
+ghost use Rattle.budget.specs.Component.{refused};
 ghost use Rattle.budget.specs.Task.{table_of, tasks_of};
 ghost use Rattle.record.specs.Layout.{record_of};
 ghost use Rattle.transfer.specs.ReadAt.{part_at, read_at};
@@ -8,6 +9,7 @@ ghost use Rattle.transfer.specs.Reading.{tasks_in, component_from, reading, read
 
 use budget::common::common_of;
 use budget::component::{Component, refused};
+use budget::known::Known;
 use budget::task::{Table, append, no_tasks};
 use record::layout::{Head, Record, record_of};
 use record::write::size_of;
@@ -35,8 +37,8 @@ fn read_tasks(part: &[u8], start: usize) -> Table
 }
 
 // The component of a record and a table. No record holds its common period: that is worked out here, once. (No `From`: its types are of crates below.)
-fn with_head(head: Head, table: Table) -> Component
-    ensures { result ≡ record { number = head.number; period = head.period; capacity = head.capacity; deadline = head.deadline; common = common_of head.period.0 (tasks_of table); table = table } }
+fn with_head(head: Head, table: Table) -> Known
+    ensures { result.component ≡ record { number = head.number; period = head.period; capacity = head.capacity; deadline = head.deadline; common = common_of head.period.0 (tasks_of table); table = table } }
 {
     let Head {
         number,
@@ -44,34 +46,44 @@ fn with_head(head: Head, table: Table) -> Component
         capacity,
         deadline,
     } = head;
-    let common = common_of(period, table);
-    Component {
-        number,
-        period,
-        capacity,
-        deadline,
-        common,
-        table,
+    Known {
+        component: Component {
+            number,
+            period,
+            capacity,
+            deadline,
+            common: common_of(period, table),
+            table,
+        },
+    }
+}
+
+// What stands for a component that isn't read.
+fn none_read() -> Known
+    ensures { result.component ≡ refused }
+{
+    Known {
+        component: refused(),
     }
 }
 
 // Reads the component of a part: its record, then the task records behind it. A part that does not begin with a component record
 // is read as the component of a refused reading.
 #[tactic(auto, unfolding(crate::specs::Reading::component_from, crate::specs::Reading::with_head))]
-pub fn read_part(part: &[u8]) -> Component
-    ensures { result ≡ component_from part.now (record_of part.now) }
+pub fn read_part(part: &[u8]) -> Known
+    ensures { result.component ≡ component_from part.now (record_of part.now) }
 {
     match record_of(part) {
         Ok(Record::Component(head)) => {
             let size = size_of(Record::Component(head));
             with_head(head, read_tasks(part, size))
         }
-        _ => refused(),
+        _ => none_read(),
     }
 }
 
 // Reads the component at a place of a sheet: the sheet's refusal, then 15 where none stands there.
-pub fn read_component(sheet: &[u8], place: usize) -> Result<Component, Fault>
+pub fn read_component(sheet: &[u8], place: usize) -> Result<Known, Fault>
     ensures { reading_in result ≡ reading sheet.now place }
 {
     let found = locate(sheet, place)?;
@@ -92,8 +104,8 @@ pub fn part_at<'a>(sheet: &'a [u8], edges: &[usize; 257], place: usize) -> &'a [
 
 // Reads the component at a place of a sheet whose edges are known.
 #[tactic(auto, unfolding(crate::specs::ReadAt::read_at))]
-pub fn read_at(sheet: &[u8], edges: &[usize; 257], place: usize) -> Component
-    ensures { result ≡ read_at sheet.now edges.now place }
+pub fn read_at(sheet: &[u8], edges: &[usize; 257], place: usize) -> Known
+    ensures { result.component ≡ read_at sheet.now edges.now place }
 {
     read_part(part_at(sheet, edges, place))
 }

@@ -1,6 +1,7 @@
 -- A parent's workload (RULES 7): its own tasks, then each child's interface as a task, by rising child number.
 use Rattle.std.specs.Prelude.{ℕ, Bool, true, false, cond, ◌&&◌, List, [], ◌∷◌, ◌++◌, Option, Some, None, eqb, take}
 use Rattle.budget.specs.declared.component.Component.{Component}
+use Rattle.budget.specs.declared.right.Known.{Known}
 use Rattle.budget.specs.declared.task.Task.{Task}
 use Rattle.budget.specs.Component.{refused, with_tasks}
 use Rattle.budget.specs.Limits.{most_tasks}
@@ -36,9 +37,9 @@ abbrev pub ready : Component → Load
 ready c = record { waiting = false; component = c }
 
 -- how a workload of the code is read as such
-abbrev pub load_in : Option Component → Load
+abbrev pub load_in : Option Known → Load
 load_in None = waiting
-load_in (Some c) = ready c
+load_in (Some k) = ready k.component
 
 -- a table has places for the most tasks; in a sheet that is taken no workload has more (WorkloadFits)
 unfoldable pub load_on : List Pair → List Offer → Component → Load

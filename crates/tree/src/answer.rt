@@ -2,7 +2,8 @@
 use budget::refusal::Refusal;
 use judge::answer::Judgement;
 
-// Verdict and margin of a component's whole workload, or that it waits for a child.
+// Verdict and margin of a component's whole workload, or that it waits for a child. It is no `Option`: that it waits is an answer of its own, with a word and
+// a code (RULES 14, 15), and `None` would say that there is none.
 #[derive(Clone, Copy, PartialEq, Eq)]
 pub enum Outcome {
     Waiting,

@@ -1,6 +1,5 @@
 // The components that one place needs, itself and all below it, and their outcomes (RULES 7).
 ghost use Rattle.std.specs.Prelude.{◌<◌, ◌≤◌, ◌≡◌, [], ◌∷◌, ◌++◌, length, map, take};
-ghost use Rattle.budget.specs.Component.{Right};
 ghost use Rattle.record.specs.Layout.{record_of};
 ghost use Rattle.transfer.specs.ReadAt.{read_at};
 ghost use Rattle.transfer.specs.Reading.{component_from};
@@ -14,7 +13,8 @@ use crate::outcome::judge_next;
 use crate::turn::Pass;
 use crate::wanted::Wanted;
 use crate::workload::load;
-use budget::component::{Capacity, Component};
+use budget::component::Capacity;
+use budget::known::Known;
 use budget::quantity::{Time, Units};
 use record::layout::{Head, Pair, Record, record_of};
 use transfer::read::{part_at, read_part};
@@ -56,9 +56,9 @@ fn offer_at(pass: Pass<'_>, place: usize, wanted: &Wanted, offers: &[Offer]) -> 
     let part = part_at(pass.sheet, pass.edges, place);
     let head = head_of(part);
     if wanted.holds(head.number) {
-        let component = read_part(part);
-        let outcome = judge_next(component, pass.pairs, offers);
-        return offer_of(component, outcome);
+        let known = read_part(part);
+        let outcome = judge_next(known, pass.pairs, offers);
+        return offer_of(known.component, outcome);
     }
     Offer {
         number: u32::from(head.number),
@@ -82,12 +82,11 @@ fn offers_below(pass: Pass<'_>, wanted: &Wanted, place: usize) -> [Offer; 256]
 }
 
 // The workload of the component at a place, from what is below it alone.
-pub(crate) fn load_below(pass: Pass<'_>, place: usize, component: Component) -> Option<Component>
-    requires few { (length pass.pairs.now ≤ 256) × (place ≤ 256) }
-    requires right { Right component }
-    ensures { let ps = pass.entry.pairs.now in load_in result ≡ load_on ps (offers_below (wanted_of ps component.number) ps (read_at pass.entry.sheet.now pass.entry.edges.now) place) component }
+pub(crate) fn load_below(pass: Pass<'_>, place: usize, known: Known) -> Option<Known>
+    requires { (length pass.pairs.now ≤ 256) × (place ≤ 256) }
+    ensures { let ps = pass.entry.pairs.now in load_in result ≡ load_on ps (offers_below (wanted_of ps known.component.number) ps (read_at pass.entry.sheet.now pass.entry.edges.now) place) known.component }
 {
-    let wanted = wanted_below(pass.pairs, component.number);
+    let wanted = wanted_below(pass.pairs, known.component.number);
     let offers = offers_below(pass, &wanted, place);
-    load(component, pass.pairs, &offers[..place])
+    load(known, pass.pairs, &offers[..place])
 }

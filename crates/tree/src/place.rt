@@ -6,7 +6,7 @@ use crate::answer::Placed;
 use crate::below::load_below;
 use crate::outcome::outcome_of;
 use crate::turn::Pass;
-use budget::component::Component;
+use budget::known::Known;
 use budget::refusal::Refusal;
 use sheet::contents::contents_of;
 use sheet::fault::Fault;
@@ -17,7 +17,7 @@ use transfer::read::read_at;
 #[derive(Clone, Copy)]
 pub struct Loaded {
     pub number: u16,
-    pub workload: Option<Component>,
+    pub workload: Option<Known>,
 }
 
 // The component at a place with its workload: the sheet's refusal with its byte, then 15. The sheet is walked once.
@@ -38,10 +38,10 @@ pub fn load_place(sheet: &[u8], place: usize) -> Result<Loaded, Fault>
         edges: &found.edges,
         pairs: pairs.as_slice(),
     };
-    let component = read_at(sheet, &found.edges, place);
+    let known = read_at(sheet, &found.edges, place);
     Ok(Loaded {
-        number: component.number,
-        workload: load_below(pass, place, component),
+        number: known.component.number,
+        workload: load_below(pass, place, known),
     })
 }
 

@@ -25,15 +25,15 @@ pub fn turn_at(pass: Pass<'_>, place: usize, offers: &mut [Offer]) -> Placed
     ensures turned { place < length offers.old → Turned (read_at pass.entry.sheet.now pass.entry.edges.now place) pass.entry.pairs.now place (row_in offers.old) (row_in offers.new) (turn_in result) }
     ensures full { length offers.old ≤ place → (result ≡ record { number = (read_at pass.entry.sheet.now pass.entry.edges.now place).number; outcome = Outcome.Waiting }) × (offers.new ≡ offers.old) }
 {
-    let component = read_at(pass.sheet, pass.edges, place);
-    let number = component.number;
+    let known = read_at(pass.sheet, pass.edges, place);
+    let number = known.component.number;
     if offers.len() <= place {
         return Placed {
             number,
             outcome: Outcome::Waiting,
         };
     }
-    let outcome = judge_next(component, pass.pairs, &offers[..place]);
-    offers[place] = offer_of(component, outcome);
+    let outcome = judge_next(known, pass.pairs, &offers[..place]);
+    offers[place] = offer_of(known.component, outcome);
     Placed { number, outcome }
 }

@@ -3,7 +3,6 @@
 ghost use Rattle.std.specs.Prelude.{cond, ◌≡◌, eqb, ltb, map, take};
 ghost use Rattle.std.specs.List.{find};
 ghost use Rattle.budget.specs.Common.{grown};
-ghost use Rattle.budget.specs.Component.{Right};
 ghost use Rattle.budget.specs.Limits.{most_tasks};
 ghost use Rattle.budget.specs.Task.{tasks_of, table_of, appended};
 ghost use Rattle.tree.specs.Offer.{as_task, offered_in};
@@ -12,6 +11,7 @@ ghost use Rattle.tree.specs.Workload.{load_in, load_on};
 use crate::offer::Offer;
 use budget::common::grow;
 use budget::component::Component;
+use budget::known::Known;
 use budget::quantity::{Time, Units};
 use budget::task::{Table, Task, append};
 use record::layout::Pair;
@@ -62,10 +62,10 @@ fn with_child(loaded: Component, offer: Offer, capacity: Units) -> Component
 }
 
 // The component with its whole workload as its tasks, or none where it waits for a child.
-pub(crate) fn load(component: Component, pairs: &[Pair], offers: &[Offer]) -> Option<Component>
-    requires { Right component }
-    ensures { load_in result ≡ load_on pairs.now (map offered_in offers.now) component }
+pub(crate) fn load(known: Known, pairs: &[Pair], offers: &[Offer]) -> Option<Known>
+    ensures { load_in result ≡ load_on pairs.now (map offered_in offers.now) known.component }
 {
+    let component = known.component;
     let mut loaded = Component {
         table: own_tasks(component.table),
         ..component
@@ -77,5 +77,5 @@ pub(crate) fn load(component: Component, pairs: &[Pair], offers: &[Offer]) -> Op
             loaded = with_child(loaded, offer, capacity);
         }
     }
-    Some(loaded)
+    Some(Known { component: loaded })
 }

@@ -14,4 +14,4 @@ returns-in_err-check_ranges c =
     rw (p.1, p.2) (refused_answer _ _ (refused_range _ (λ z. h (e ∙ z)) ∙ sym e) h)
 
 pub returns : goal.returns
-returns c = c.stored.ensures ∙ stored_answer_lem _ (in_range _ (sym c.in_ok-check_ranges.ensures)) c.requires
+returns c = c.stored.ensures ∙ stored_answer_lem _ (in_range _ (sym c.in_ok-check_ranges.ensures)) c.args.known.right

@@ -1,6 +1,7 @@
--- What adding answers stores the right common period, whether it is refused or not.
+-- What adding answers stores the right common period.
 use Rattle.budget.proofs.EditRight.{adding_right}
+use Rattle.calls_edit.proofs.Right.{edited_right}
 use Rattle.calls_edit.proofs.edits.add.Goals as goal
 
 pub returns : goal.returns
-returns c = rw c.add_task-edited.ensures (adding_right _ _)
+returns c = edited_right c.add_task.result (rw c.add_task.ensures (adding_right _ _))

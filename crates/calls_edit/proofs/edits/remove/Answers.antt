@@ -1,6 +1,7 @@
--- What removing answers stores the right common period, whether it is refused or not.
+-- What removing answers stores the right common period.
 use Rattle.budget.proofs.EditRight.{removing_right}
+use Rattle.calls_edit.proofs.Right.{edited_right}
 use Rattle.calls_edit.proofs.edits.remove.Goals as goal
 
 pub returns : goal.returns
-returns c = rw c.remove_task-edited.ensures (removing_right _ _)
+returns c = edited_right c.remove_task.result (rw c.remove_task.ensures (removing_right _ _))

@@ -42,7 +42,7 @@ new-steps-requires c = rw c.tasks.ensures (few _ c.requires.passes)
 pub instants-init : goal.instants-init
 instants-init c =
     let s = scannable _ _ c.requires 0 (omega arith) in (
-      carried_start _ s.few s.tasks _ (subst (λ (ks : List Task). Begun ks c.new-steps.result) c.tasks.ensures c.new-steps.ensures),
+      carried_start _ s.tasks _ (subst (λ (ks : List Task). Begun ks c.new-steps.result) c.tasks.ensures c.new-steps.ensures),
       subst (λ (at : ℕ). Found (tasks_of c.args.component.table) c.args.component.period.0 c.args.component.deadline.0 c.args.length.0 at 0)
           (sym c.new-steps.ensures.at) (found_start _ _ _ _),
     )

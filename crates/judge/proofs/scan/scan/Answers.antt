@@ -24,7 +24,7 @@ on a = moved _ a.requires.tasks _ a.loop-steps.invariant.0 (in_limit a) _ _ a.pa
 pub loop-steps-init : goal.loop-steps-init
 loop-steps-init c =
     let pre = c.requires in (
-      carried_start _ pre.few pre.tasks _ c.new-steps.ensures,
+      carried_start _ pre.tasks _ c.new-steps.ensures,
       subst (λ (at : ℕ). Sought c.args.tasks.now c.args.interface c.args.length.0 at None) (sym c.new-steps.ensures.at) (fits_start _ _),
       subst (λ (at : ℕ). Best c.args.tasks.now c.args.interface c.args.length.0 at None) (sym c.new-steps.ensures.at) (best_start _ _ _),
     )

@@ -1,5 +1,4 @@
 -- The kind's number and the length are the record's first two fields; a number that no kind has is refused as the definition refuses it.
-use Prim.Native.Nat.{ℕ}
 use mathlib.Core.Path.{◌≡◌, refl, sym, ap, ◌∙◌}
 use native.Mathlib.Omega.{arith}
 use borrow.Author.Tests.{le-ltb}

@@ -1,15 +1,14 @@
 -- Too little room leaves the buffer as it is; else the row is stored in the part from its place on.
 use Prim.Native.Nat.{ℕ, ◌+◌, ◌≤◌}
 use mathlib.Core.Path.{◌≡◌, refl, sym, ap, ◌∙◌}
-use lib.ListN.{length, length-drop}
-use native.Mathlib.Omega.{arith}
+use lib.ListN.{length}
 use borrow.Author.Tests.{ne_eqb}
 use Rattle.std.proofs.lemmas.Result.{err_from_is_err_and}
 use Rattle.budget.proofs.Refusals.{some}
 use Rattle.record.specs.Row.{row_bytes}
-use Rattle.record.specs.Writing.{room_refusal, written, buffered}
+use Rattle.record.specs.Writing.{written, buffered}
 use Rattle.record.proofs.RowLaws.{row_length_lem}
-use Rattle.record.proofs.StoreLaws.{lent, room_given, room_free, stored_part}
+use Rattle.record.proofs.StoreLaws.{room_given, room_free, stored_part}
 use Rattle.record.proofs.write.write_row.Goals as goal
 use Rattle.record.proofs.write.write_row.Goals.{After-length-size, In_ok-check_room}
 
@@ -27,20 +26,6 @@ returns-in_err-check_room c =
 free : (c : In_ok-check_room) → c.args.at + length (row_bytes c.args.row.widths c.args.values) ≤ length c.args.buffer.now
 free c = let a = c.args in let e = c.in_ok-check_room.ensures in
     rw (row_length_lem a.row.widths a.values, ← c.length-size.ensures.length) (room_given (length a.buffer.now) a.at c.length-size.result (sym e))
-
-pub slice_bounds-put-count : goal.slice_bounds-put-count
-slice_bounds-put-count c = let h = free (goal.at.slice_bounds-put-count c).In_ok-check_room in omega arith
-
-pub slice_bounds-put-start : goal.slice_bounds-put-start
-slice_bounds-put-start c = let h = free (goal.at.slice_bounds-put-start c).In_ok-check_room in omega arith
-
-pub put-requires : goal.put-requires
-put-requires c = let a = c.args in let h = free (goal.at.put-requires c).In_ok-check_room in
-    rw (lent a.buffer.now a.at, length-drop) (omega (arith, row_length_lem a.row.widths a.values))
-
-pub overflow_add-result : goal.overflow_add-result
-overflow_add-result c = let a = c.args in let h = free (goal.at.overflow_add-result c).In_ok-check_room in
-    omega (arith, row_length_lem a.row.widths a.values, c.length-size.ensures.length)
 
 pub returns : goal.returns
 unfolding written buffered

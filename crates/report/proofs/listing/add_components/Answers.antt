@@ -1,46 +1,25 @@
--- `report::listing::add_components` meets its contract: after k turns the page holds the lines of the first k components, and the row their offers.
+-- After k turns the page holds the lines of the first k components, and the row their offers.
 use native.Mathlib.Omega.{arith}
-use mathlib.Core.Path.{◌≡◌, refl}
-use Rattle.tree.proofs.Pass.{known_few, known_within, lent_count, passing_none, turn_number, turn_outcome, turn_more}
+use mathlib.Core.Path.{refl}
+use Rattle.tree.proofs.Pass.{known_few, passing_none, turn_number, turn_outcome, turn_more}
 use Rattle.report.proofs.Pages.{no_lines, one_more_line}
 use Rattle.report.proofs.listing.add_components.Goals as goal
 
--- the sheet's edges and its count are known
-pub offset_bounds-edges-count : goal.offset_bounds-edges-count
-offset_bounds-edges-count c = let few = known_few c.requires in omega arith
+pub offset_bounds-contents-count : goal.offset_bounds-contents-count
+offset_bounds-contents-count c = let few = known_few c.requires in omega arith
 
-pub bounds-edges-count : goal.bounds-edges-count
-bounds-edges-count c = let few = known_few c.requires in omega arith
+pub bounds-contents-count : goal.bounds-contents-count
+bounds-contents-count c = let few = known_few c.requires in omega arith
 
-pub slice_bounds-read_pairs-count : goal.slice_bounds-read_pairs-count
-slice_bounds-read_pairs-count c = known_within c.requires _ (omega arith)
+pub loop-place-init : goal.loop-place-init
+loop-place-init c =
+    let x = c.read_pairs-pairs in
+    (rw c.as_slice.ensures (passing_none c.requires x.result x.ensures refl), no_lines _ _)
 
-pub slice_bounds-read_pairs-start : goal.slice_bounds-read_pairs-start
-slice_bounds-read_pairs-start c = known_within c.requires _ (omega arith)
-
-pub loop-k-init : goal.loop-k-init
-loop-k-init c =
-    let x = c.read_pairs-read in
-    (passing_none c.requires x.result x.ensures refl, no_lines _ _)
-
-pub add_component-at-requires : goal.add_component-at-requires
-add_component-at-requires c =
-    let l = c.loop-k.invariant in
-    omega (arith, l.0.few, l.1.room, c.loop-k-test.true)
-
-pub loop-k-preserved : goal.loop-k-preserved
-loop-k-preserved c =
+pub loop-place-preserved : goal.loop-place-preserved
+loop-place-preserved c =
     let known = c.requires in
-    let l = c.loop-k.invariant in
-    let next = c.loop-k-test.true in
-    let turned = c.turn_at-turn.ensures.turned in
-    (turn_more known l.0 next turned, one_more_line _ _ _ (turn_number known l.0 next turned) (turn_outcome known l.0 next turned) l.1 c.add_component-at.ensures)
-
-pub returns : goal.returns
-returns c = let all : c.loop-k.k ≡ c.args.count = omega (arith, c.loop-k.invariant.0.within) in rw all at c.loop-k.invariant.1
-
-pub slice_bounds-turn_at-end : goal.slice_bounds-turn_at-end
-slice_bounds-turn_at-end c = lent_count _ _ (omega arith)
-
-pub slice_bounds-turn_at-end-in-loop-k : goal.slice_bounds-turn_at-end-in-loop-k
-slice_bounds-turn_at-end-in-loop-k c = lent_count _ _ (omega arith)
+    let l = c.loop-place.invariant in
+    let next = c.loop-place-test.true in
+    let turned = c.turn_at-placed.ensures.turned in
+    (turn_more known l.0 next _ turned, one_more_line _ _ _ (turn_number known l.0 next _ turned) (turn_outcome known l.0 next _ turned) l.1 (rw c.component_line.ensures at c.put_line-at.ensures))

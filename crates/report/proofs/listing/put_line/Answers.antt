@@ -1,23 +1,16 @@
--- `report::listing::put_line` meets its contract: after i turns the first i bytes of the line are stored.
-use Prim.Native.Nat.{ℕ}
+-- The line's bytes are copied behind what the page holds.
 use native.Mathlib.Omega.{arith}
-use mathlib.Core.Path.{◌≡◌, ap, ◌∙◌}
-use lib.ListN.{length, take}
-use lib.Seq.{sets, length-take-le}
-use Rattle.report.proofs.Puts.{one_more_stored}
+use mathlib.Core.Path.{ap}
+use lib.ListN.{length}
+use Rattle.record.proofs.StoreLaws.{part_stored}
 use Rattle.report.proofs.listing.put_line.Goals as goal
-
-pub loop-i-preserved : goal.loop-i-preserved
-loop-i-preserved c = (omega arith, one_more_stored _ _ _ _ _ c.loop-i.invariant.1 (omega arith))
 
 pub returns : goal.returns
 returns c =
-    let a = c.args in
-    let l = c.loop-i in
-    let all : l.i ≡ a.n = omega arith in
-    let long : length (take a.n a.line.now) ≡ a.n = length-take-le a.n a.line.now (omega arith) in
+    let line = c.as_slice-bytes.ensures in
+    let long = ap length line.bytes in
     record {
       place = omega arith;
-      page = l.invariant.1 ∙ ap (λ (m : ℕ). sets a.page.now a.at (take m a.line.now)) all;
+      page = rw (c.copy_from_slice.ensures.after, ← line.bytes) (part_stored c.args.page.now c.args.at _ _ (omega arith) (omega arith));
       short = omega arith;
     }

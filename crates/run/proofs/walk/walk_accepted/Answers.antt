@@ -13,7 +13,7 @@ use Rattle.run.proofs.walk.walk_accepted.Goals.{Start}
 
 -- what is accepted keeps the rules, and its columns are of one length
 kept : (s : Start) → let a = s.args in
-    let j = a.jobs.now in Accepted a.table j.tasks.now j.releases.now j.ready.now j.works.now a.trace.now (length a.left.now)
+    let j = a.jobs.now in Accepted a.table.now j.tasks.now j.releases.now j.ready.now j.works.now a.trace.now (length a.left.now)
 kept s = accepted _ _ _ _ _ _ _ s.requires
 
 even : (s : Start) → OneLength s.args.jobs.now
@@ -31,7 +31,7 @@ deadlines-requires c =
     let j = c.args.jobs.now in (
       even s,
       length-take-le _ _ (kept s).few,
-      rw c.tasks.ensures (job_fine c.args.table j.tasks.now j.releases.now j.ready.now j.works.now c.args.trace.now _ (kept s)),
+      rw c.tasks.ensures (job_fine c.args.table.now j.tasks.now j.releases.now j.ready.now j.works.now c.args.trace.now _ (kept s)),
     )
 
 pub copy_from_slice-requires : goal.copy_from_slice-requires
@@ -48,7 +48,7 @@ invariant_of-walk_slots c =
       long = c.deadlines.auto.due ∙ length-take-le _ _ (kept s).few;
       numbered = λ k h.
           rw (ap (λ (j : Job). j.task) (at j (even s) k h))
-          at (task_few c.args.table j.tasks.now j.releases.now j.ready.now j.works.now c.args.trace.now _ (kept s) k (omega (arith, count j (even s))));
+          at (task_few c.args.table.now j.tasks.now j.releases.now j.ready.now j.works.now c.args.trace.now _ (kept s) k (omega (arith, count j (even s))));
     }
 
 pub walk_slots-requires : goal.walk_slots-requires
@@ -60,8 +60,8 @@ pub returns : goal.returns
 returns c =
     let s = (goal.at.returns c).Start in
     let j = c.args.jobs.now in
-    let done = c.walk_slots.ensures (tasks_of c.args.table) (rw (← c.tasks.ensures) (sym c.deadlines.ensures)) (works j (even s) ∙ sym c.copy_from_slice.ensures.after) in
+    let done = c.walk_slots.ensures (tasks_of c.args.table.now) (rw (← c.tasks.ensures) (sym c.deadlines.ensures)) (works j (even s) ∙ sym c.copy_from_slice.ensures.after) in
     record {
-      value = done.0 ∙ sym (answer_accepted c.args.table j.tasks.now j.releases.now j.ready.now j.works.now c.args.trace.now (length c.args.left.now) c.requires);
-      leaves = done.1 ∙ sym (left_accepted c.args.table j.tasks.now j.releases.now j.ready.now j.works.now c.args.trace.now c.args.left.now c.requires);
+      value = done.0 ∙ sym (answer_accepted c.args.table.now j.tasks.now j.releases.now j.ready.now j.works.now c.args.trace.now (length c.args.left.now) c.requires);
+      leaves = done.1 ∙ sym (left_accepted c.args.table.now j.tasks.now j.releases.now j.ready.now j.works.now c.args.trace.now c.args.left.now c.requires);
     }

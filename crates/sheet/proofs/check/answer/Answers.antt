@@ -1,16 +1,15 @@
--- The walk over the pairs is lent what the first walk holds of each component, and each answer is the definition's.
-use Prim.Native.Nat.{◌≤◌}
+-- The walk over the pairs is lent what the first walk notes of each component, and each answer is the definition's.
 use native.Mathlib.Omega.{arith}
 use borrow.Author.Rules.{rules}
 use Rattle.std.proofs.lemmas.Result.{err_from_is_err_and}
-use Rattle.sheet.proofs.RegisterLaws.{few, long, walkable, paired_answer, paired_refused}
+use Rattle.sheet.proofs.RegisterLaws.{few, walkable, paired_answer, paired_refused}
 use Rattle.sheet.proofs.check.answer.Goals as goal
 
 pub overflow_add-count : goal.overflow_add-count
 overflow_add-count c = let f = few _ _ c.requires in search rules
 
-pub slice_bounds-held-end : goal.slice_bounds-held-end
-slice_bounds-held-end c = let f = few _ _ c.requires in let l = long _ _ c.requires in omega arith
+pub slice_bounds-components-end : goal.slice_bounds-components-end
+slice_bounds-components-end c = let f = few _ _ c.requires in let l = c.requires.long in omega arith
 
 pub pair_walk-requires : goal.pair_walk-requires
 pair_walk-requires c = walkable _ _ c.requires _ (omega arith)

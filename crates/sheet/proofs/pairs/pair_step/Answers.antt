@@ -1,5 +1,4 @@
 -- The record read at the walk's place is judged: what is lent is what is left from that place on.
-use mathlib.Core.Path.{refl}
 use Rattle.std.proofs.lemmas.Result.{err_from_is_err_and}
 use Rattle.sheet.specs.Pairs.{pair_judged}
 use Rattle.sheet.proofs.CourseLaws.{step_is}

@@ -1,12 +1,10 @@
 -- The loop's invariant: the answer from the start is the answer from here, and what is held follows the walk. What is left of the sheet falls.
 use mathlib.Core.Path.{◌≡◌, ap, ◌∙◌}
 use borrow.Author.Rules.{rules}
-use Rattle.std.specs.Prelude.{Some, None, Ok, Err}
+use Rattle.std.specs.Prelude.{Ok}
 use Rattle.std.proofs.lemmas.Result.{err_from_is_err_and}
-use Rattle.sheet.specs.inner.PairCourse.{Turns}
-use Rattle.sheet.specs.Pairs.{pair_step}
 use Rattle.sheet.proofs.Mapped.{mapped_ok, mapped_err}
-use Rattle.sheet.proofs.PairWalking.{begun, here, again, falls, over, refused_here}
+use Rattle.sheet.proofs.PairWalking.{begun, again, falls, over, refused_here}
 use Rattle.sheet.proofs.pairs.pair_walk.Goals as goal
 use Rattle.sheet.proofs.pairs.pair_walk.Goals.{In-Some}
 

@@ -1,7 +1,7 @@
 -- The part lies where the component was located, within the sheet.
 use Prim.Native.Nat.{◌≤◌, ◌-◌}
 use lib.ListN.{length, take, drop}
-use mathlib.Core.Path.{◌≡◌, sym, ap}
+use mathlib.Core.Path.{◌≡◌, ap}
 use Rattle.sheet.specs.declared.part.Span.{Span}
 use Rattle.sheet.specs.Part.{Located, span_of, located, part_of}
 use Rattle.sheet.proofs.PartLaws.{span_order, span_within}

@@ -1,7 +1,6 @@
 -- Refused, the component is nowhere; else it lies between two of the edges answered.
 use Prim.Native.Nat.{◌≤◌}
 use native.Mathlib.Omega.{arith}
-use borrow.Author.Rules.{rules}
 use Rattle.std.proofs.lemmas.Result.{err_from_is_err_and}
 use Rattle.sheet.proofs.PartLaws.{few, located_refused, located_nowhere, located_found}
 use Rattle.sheet.proofs.part.locate.Goals as goal

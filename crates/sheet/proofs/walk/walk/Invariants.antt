@@ -5,7 +5,7 @@ use Rattle.sheet.proofs.Walking.{Walking}
 use Rattle.sheet.proofs.walk.walk.Given as goal
 
 abbrev pub invariant-loop-next : goal.invariant-loop-next
-invariant-loop-next l = Walking l.sheet l.held l.state
+invariant-loop-next l = Walking l.sheet l.edges l.components l.state
 
 abbrev pub decreases-loop-next : goal.decreases-loop-next
 decreases-loop-next l = length l.sheet - l.state.place

@@ -12,8 +12,8 @@ returns-in_err-check_ranges c =
     let a = c.args in
     let p = err_from_is_err_and c.from_residual.result c.from_residual.ensures.1 in
     let e = c.in_err-check_ranges.field-0.0 in
-    let n = held_first (length a.buffer.now) a.at a.component e (c.in_err-check_ranges.ensures ∙ sym (right_held a.component c.requires)) in
-    record { answer = rw (p.1, p.2) (refused_answer _ a.at (component_bytes a.component) e n); bytes = refused_bytes _ a.buffer.now a.at (component_bytes a.component) e n }
+    let n = held_first (length a.buffer.now) a.at a.known.component e (c.in_err-check_ranges.ensures ∙ sym (right_held a.known.component c.args.known.right)) in
+    record { answer = rw (p.1, p.2) (refused_answer _ a.at (component_bytes a.known.component) e n); bytes = refused_bytes _ a.buffer.now a.at (component_bytes a.known.component) e n }
 
 pub store-requires : goal.store-requires
-store-requires c = right_held c.args.component c.requires ∙ sym c.in_ok-check_ranges.ensures
+store-requires c = right_held c.args.known.component c.args.known.right ∙ sym c.in_ok-check_ranges.ensures

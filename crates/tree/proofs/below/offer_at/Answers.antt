@@ -2,12 +2,10 @@
 use mathlib.Core.List.{List}
 use Prim.Native.Nat.{ℕ}
 use mathlib.Core.Path.{◌≡◌, sym, subst, ap, ◌∙◌}
-use Rattle.budget.specs.Component.{Right}
 use Rattle.record.specs.declared.layout.Head.{Head}
 use Rattle.record.specs.Layout.{record_of}
 use Rattle.transfer.specs.ReadAt.{read_at}
 use Rattle.transfer.specs.Reading.{component_from}
-use Rattle.transfer.proofs.ReadRight.{part_right}
 use Rattle.tree.specs.Offer.{offer_of}
 use Rattle.tree.specs.inner.Told.{Told}
 use Rattle.tree.specs.inner.Below.{holds, outcome_wanted}
@@ -23,15 +21,12 @@ asked c =
     ∙ ap (λ (h : Head). holds c.args.wanted.now h.number) c.head_of-head.ensures
     ∙ ap (λ (p : List ℕ). holds c.args.wanted.now (component_from p (record_of p)).number) c.part_at-part.ensures
 
-pub judge_next-outcome-requires : goal.judge_next-outcome-requires
-judge_next-outcome-requires c = subst Right (sym c.read_part-component.ensures) (part_right _ _)
-
 pub offer_of-requires : goal.offer_of-requires
 offer_of-requires c = subst Told (sym c.judge_next-outcome.ensures) (told _)
 
 pub returns-then-holds : goal.returns-then-holds
 unfolding outcome_wanted read_at
-returns-then-holds c = rw (sym (asked (goal.at.returns-then-holds c).After-holds) ∙ c.if-holds.true, c.offer_of.ensures, c.judge_next-outcome.ensures, c.read_part-component.ensures, c.part_at-part.ensures)
+returns-then-holds c = rw (sym (asked (goal.at.returns-then-holds c).After-holds) ∙ c.if-holds.true, c.offer_of.ensures, c.judge_next-outcome.ensures, c.read_part-known.ensures, c.part_at-part.ensures)
 
 pub returns : goal.returns
 unfolding outcome_wanted offer_of read_at

@@ -4,9 +4,7 @@ use native.Mathlib.Omega.{arith}
 use mathlib.Core.Path.{refl, sym, subst}
 use lib.ListN.{length, get_or}
 use Rattle.std.proofs.lemmas.Result.{err_from_is_err_and}
-use Rattle.budget.specs.Component.{Right}
 use Rattle.budget.proofs.Refusals.{some}
-use Rattle.transfer.proofs.ReadRight.{read_at_right}
 use Rattle.transfer.proofs.PairReads.{count_few, from_within}
 use Rattle.tree.proofs.PlaceLaws.{place_refused, place_missing, place_found, pairs_few}
 use borrow.Author.Rules.{rules}
@@ -43,17 +41,13 @@ slice_bounds-read_pairs-start c = let b = within (goal.at.slice_bounds-read_pair
 
 pub load_below-requires : goal.load_below-requires
 load_below-requires c =
-    let a = c.args in
-    record {
-      few = (
-        rw c.as_slice.ensures (pairs_few a.sheet.now _ c.in_ok-found.ensures a.place refl _ c.read_pairs-pairs.ensures),
-        omega (arith, last (goal.at.load_below-requires c).In_ok-found, c.if-found-place.false),
-      );
-      right = subst Right (sym c.read_at-component.ensures) (read_at_right _ _ _);
-    }
+    let a = c.args in (
+      rw c.as_slice.ensures (pairs_few a.sheet.now _ c.in_ok-found.ensures a.place refl _ c.read_pairs-pairs.ensures),
+      omega (arith, last (goal.at.load_below-requires c).In_ok-found, c.if-found-place.false),
+    )
 
 pub returns : goal.returns
 returns c =
     let a = c.args in
-    place_found a.sheet.now _ c.in_ok-found.ensures a.place refl _ c.read_pairs-pairs.ensures c.if-found-place.false _ c.read_at-component.ensures _
+    place_found a.sheet.now _ c.in_ok-found.ensures a.place refl _ c.read_pairs-pairs.ensures c.if-found-place.false _ c.read_at-known.ensures _
     (rw c.as_slice.ensures at c.load_below.ensures)

@@ -3,8 +3,6 @@ use Prim.Native.Nat.{◌*◌}
 use mathlib.Core.Path.{sym, subst, ap, ◌∙◌}
 use lib.Seq.{sets}
 use Rattle.budget.specs.declared.component.Component.{Component}
-use Rattle.budget.specs.Component.{Right}
-use Rattle.transfer.proofs.ReadRight.{read_at_right}
 use Rattle.tree.specs.numbers.Offer.{Offer}
 use Rattle.tree.specs.Offer.{noted, offer_of, row_in}
 use Rattle.tree.specs.inner.Told.{Told}
@@ -13,16 +11,13 @@ use Rattle.tree.proofs.Accepted.{told}
 use Rattle.tree.proofs.OfferLaws.{row_before, row_set}
 use Rattle.tree.proofs.turn.turn_at.Goals as goal
 
-pub judge_next-outcome-requires : goal.judge_next-outcome-requires
-judge_next-outcome-requires c = subst Right (sym c.read_at-component.ensures) (read_at_right _ _ _)
-
 pub offer_of-requires : goal.offer_of-requires
 offer_of-requires c = subst Told (sym c.judge_next-outcome.ensures) (told _)
 
 pub returns-clause-turned : goal.returns-clause-turned
 returns-clause-turned c =
     let a = c.args in
-    let read = c.read_at-component.ensures in
+    let read = c.read_at-known.ensures in
     λ room. record {
       number = ap (λ (x : Component). x.number) read;
       outcome = rw (row_before a.place a.offers.now, ← read) c.judge_next-outcome.ensures;

@@ -1,5 +1,5 @@
 -- What was read, and what stands in the fields that are left, are the values of the whole row.
-use mathlib.Core.Path.{◌≡◌, refl, sym, ◌∙◌}
+use mathlib.Core.Path.{◌≡◌, refl, sym}
 use Prim.Native.Nat.{◌+◌, ◌-◌, ◌≤◌}
 use lib.ListN.{length, get_or}
 use borrow.Author.Rules.{rules}
