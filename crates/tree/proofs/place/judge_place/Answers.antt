@@ -1,5 +1,5 @@
 -- Refused as what is loaded; else the outcome of its load.
-use mathlib.Core.Path.{refl, sym, subst}
+use mathlib.Core.Path.{refl}
 use Rattle.std.proofs.lemmas.Result.{err_from_is_err_and}
 use Rattle.budget.proofs.Refusals.{some}
 use Rattle.tree.proofs.PlaceLaws.{judged_refused, judged_found}

@@ -1,7 +1,7 @@
 -- Refused as the sheet is, or 15; else the pairs behind its last component are read, and the workload from what is below the place is the place's.
 use Prim.Native.Nat.{◌≤◌}
 use native.Mathlib.Omega.{arith}
-use mathlib.Core.Path.{refl, sym, subst}
+use mathlib.Core.Path.{refl}
 use lib.ListN.{length, get_or}
 use Rattle.std.proofs.lemmas.Result.{err_from_is_err_and}
 use Rattle.budget.proofs.Refusals.{some}
