@@ -2,7 +2,7 @@
 ghost use Rattle.std.specs.Prelude.{◌≡◌, cond, []};
 ghost use Rattle.budget.specs.Refusal as refusal;
 ghost use Rattle.budget.specs.Refusal.{number_in};
-ghost use Rattle.budget.specs.Task.{no_task, span, task_refusal, table_refusal, tasks_of, table_of, appended, valid_tasks};
+ghost use Rattle.budget.specs.Task.{span, task_refusal, table_refusal, tasks_of, table_of, appended, valid_tasks};
 
 use crate::quantity::{Time, Units};
 use crate::refusal::Refusal;

@@ -1,5 +1,5 @@
 // The reply on one component, from what it is answered in its tree.
-ghost use Rattle.std.specs.Prelude.{◌≡◌, length, IfOk};
+ghost use Rattle.std.specs.Prelude.{◌≡◌, IfOk};
 ghost use Rattle.budget.specs.Refusal.{number_in};
 ghost use Rattle.judge.specs.Answer.{judgement_in};
 ghost use Rattle.tree.specs.Outcome.{outcome_in};

@@ -15,7 +15,7 @@ pub struct Step {
 }
 
 // A walk over the step instants of some tasks: the period, work and next deadline of each, the instant to be passed next and the demand before it. Three
-// arrays, since one array of rows took 7 to 35 in a hundred more instructions, and the tasks themselves beside the deadlines 15 to 40.
+// rows: over one row of structs, or the tasks with their deadlines beside them, judging 15 tasks took 1.9 and 1.3 times as long (measured).
 #[derive(Drop)]
 pub struct Steps {
     pub count: usize,

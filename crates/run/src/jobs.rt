@@ -1,6 +1,6 @@
 // The jobs of a run, and what makes their arrival legal (RULES 9).
 ghost use Rattle.std.specs.Prelude.{ℕ, suc, ◌+◌, ◌^◌, ◌≤◌, ◌<◌, not, ◌&&◌, ◌||◌, List, map, ◌≡◌, pos, ◌+ℤ◌, leb, eqb, length, get_or, drop};
-ghost use Rattle.std.specs.Int.Signed.{le_z, lt_z};
+ghost use Rattle.std.specs.Int.Signed.{le_z};
 ghost use Rattle.budget.specs.declared.task.Task.{Task};
 ghost use Rattle.budget.specs.Task.{T, C, J};
 ghost use Rattle.run.specs.inner.Columns.{OneLength, Timely, job_in, jobs_in};

@@ -1,5 +1,5 @@
 // One slot of the run: which job is served, and which is late.
-ghost use Rattle.std.specs.Prelude.{ℕ, ◌+◌, ◌≤◌, ◌<◌, cond, ◌&&◌, ◌||◌, List, ◌≡◌, IfSome, unwrap_or, ltb, eqb, length, get_or};
+ghost use Rattle.std.specs.Prelude.{ℕ, ◌+◌, ◌≤◌, ◌<◌, ◌&&◌, ◌||◌, List, ◌≡◌, IfSome, unwrap_or, length, get_or};
 ghost use Rattle.budget.specs.declared.task.Task.{Task};
 ghost use Rattle.budget.specs.Limits.{most_tasks};
 ghost use Rattle.run.specs.inner.Columns.{Deadlines, OneLength, jobs_in};
