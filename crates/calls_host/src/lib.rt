@@ -6,7 +6,8 @@ use calls::print::Out;
 use calls::rows::ROOM;
 use calls::words::Words;
 
-// Calls with the buffer and the place in it that the call says, and shows what is returned and the buffer.
+// Calls with the buffer and the place in it that the call says, and shows what is returned and the buffer. (`calls_sheet` has one much like it: a public
+// one for both would have to ask that its closure can be called.)
 fn called<F: FnOnce(&mut [u8], usize) -> u32>(words: &mut Words<'_>, out: &mut Out, call: F)
     requires { F.IsAlwaysCallable call }
 {

@@ -5,7 +5,8 @@ use calls::words::Words;
 use transfer::pair::{self, Pair};
 use transfer::write;
 
-// Writes into the buffer from the place on that the call says, and shows the answer and the buffer.
+// Writes into the buffer from the place on that the call says, and shows the answer and the buffer. (`calls_host` has one much like it: a public one for
+// both would have to ask that its closure can be called.)
 fn written<F: FnOnce(&mut [u8], usize) -> Result<usize, Refusal>>(
     words: &mut Words<'_>,
     out: &mut Out,

@@ -9,3 +9,4 @@ pub mod StepLaws
 pub mod StepLoops
 pub mod VerdictLaws
 pub mod Whole
+pub mod Apart

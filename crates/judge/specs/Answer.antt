@@ -1,5 +1,5 @@
 -- What judging a component answers in a single call (RULES 7, 8, 11): the verdict and the margin, each as it is defined by itself.
-use Rattle.std.specs.Prelude.{Result, Ok, Err}
+use Rattle.std.specs.Prelude.{Result, Ok, Err, ◌≡◌}
 use Rattle.budget.specs.declared.component.Capacity.{Capacity}
 use Rattle.budget.specs.declared.component.Component.{Component}
 use Rattle.budget.specs.declared.refusal.Refusal.{Refusal}
@@ -27,3 +27,7 @@ judgement_in j = record { verdict = Judged.Answered j.capacity j.verdict; margin
 abbrev pub answer_in : Result Judgement Refusal → Answer
 answer_in (Ok j) = judgement_in j
 answer_in (Err r) = record { verdict = Judged.Refused (number_of r); margin = Margined.Refused (number_of r) }
+
+-- no two answers of the code have the same numbers
+abbrev pub AnswersApart : Type 0
+AnswersApart = (a b : Result Judgement Refusal) → answer_in a ≡ answer_in b → a ≡ b

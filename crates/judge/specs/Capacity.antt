@@ -1,5 +1,5 @@
 -- The smallest capacity that is accepted, looked for from 0 up to Δ (RULES 7).
-use Rattle.std.specs.Prelude.{ℕ, suc, cond, List, Option, Some, None, Result, Ok, Err, leb, eqb}
+use Rattle.std.specs.Prelude.{ℕ, suc, cond, List, Option, Some, None, Result, Ok, Err, leb, eqb, ◌≡◌}
 use Rattle.budget.specs.declared.component.Component.{Component}
 use Rattle.budget.specs.declared.quantity.Units.{Units}
 use Rattle.budget.specs.declared.refusal.Refusal.{Refusal}
@@ -33,3 +33,6 @@ abbrev pub smallest_in : Result (Option Units) Refusal → Smallest
 smallest_in (Ok (Some u)) = Variant.Found u
 smallest_in (Ok None) = Variant.None
 smallest_in (Err r) = Variant.Refused (refusal.number_of r)
+
+abbrev pub CapacitiesApart : Type 0
+CapacitiesApart = (a b : Result (Option Units) Refusal) → smallest_in a ≡ smallest_in b → a ≡ b

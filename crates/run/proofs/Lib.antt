@@ -15,3 +15,4 @@ pub mod Service
 pub mod Shifted
 pub mod Slots
 pub mod Walking
+pub mod Apart

@@ -1,5 +1,5 @@
--- What the walk answers, in the paper's numbers: a refusal or 0, the first miss, and the units served and idle (RULES 9, 11).
-use Rattle.std.specs.Prelude.{ℕ, Option, Result, Ok, Err}
+-- What the walk answers, in the numbers of RULES 12: a refusal or 0, the first miss, and the units served and idle (RULES 9, 11).
+use Rattle.std.specs.Prelude.{ℕ, Option, Result, Ok, Err, ◌≡◌}
 use Rattle.std.specs.Prelude as std
 use Rattle.budget.specs.declared.quantity.Time.{Time}
 use Rattle.budget.specs.declared.quantity.Units.{Units}
@@ -29,3 +29,7 @@ miss_in (std.Some m) = At m.at m.task
 abbrev pub walked_in : Result answer.Walked Refusal → Walked
 walked_in (Ok w) = record { refusal = refusal.none; miss = miss_in w.miss; served = w.served; idle = w.idle }
 walked_in (Err r) = record { refusal = refusal.number_of r; miss = None; served = record { 0 = 0 }; idle = record { 0 = 0 } }
+
+-- no two answers of the code have the same numbers
+abbrev pub WalksApart : Type 0
+WalksApart = (a b : Result answer.Walked Refusal) → walked_in a ≡ walked_in b → a ≡ b

@@ -7,3 +7,4 @@ pub mod Units
 pub mod Walk
 pub mod Windows
 pub mod WorstTrace
+pub mod Apart

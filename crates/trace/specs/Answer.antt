@@ -21,7 +21,7 @@ trace_refusal i o s =
     refusal.range)
     (interface_refusal i)
 
--- the answer in the paper's numbers: its refusal or 0, and yes or no
+-- the answer in the numbers of RULES 12: its refusal or 0, and yes or no
 pub record Legality : Type 0 where
   pub refusal : ℕ
   pub legal : Bool
@@ -35,3 +35,7 @@ legality_in (Err r) = record { refusal = refusal.number_of r; legal = false }
 pub record Answered (i : Interface) (o : ℕ) (s : List ℕ) (r : Legality) : Type 0 where
   pub refused : r.refusal ≡ trace_refusal i o s
   pub yes_exactly : (r.legal ≡ true) ↔ ((trace_refusal i o s ≡ refusal.none) × Legal i o s)
+
+-- no two answers of the code have the same numbers
+abbrev pub LegalitiesApart : Type 0
+LegalitiesApart = (a b : Result Bool Refusal) → legality_in a ≡ legality_in b → a ≡ b
