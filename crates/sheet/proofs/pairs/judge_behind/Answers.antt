@@ -5,23 +5,11 @@ use Rattle.std.proofs.lemmas.Result.{err_from_is_err_and}
 use Rattle.sheet.specs.Pairs.{stopped, pair_judged}
 use Rattle.sheet.proofs.pairs.judge_behind.Goals as goal
 
-pub returns-in-Component : goal.returns-in-Component
-unfolding pair_judged
-returns-in-Component c es st k = rw c.in-Component.is
-
-pub returns-in-Task : goal.returns-in-Task
-unfolding pair_judged
-returns-in-Task c es st k = rw c.in-Task.is
-
 pub returns-in_err-take_pair-in-Pair : goal.returns-in_err-take_pair-in-Pair
 unfolding pair_judged
 returns-in_err-take_pair-in-Pair c es st k =
     let p = err_from_is_err_and c.from_residual.result c.from_residual.ensures.1 in
     rw (p.1, p.2, c.in-Pair.is) (c.in_err-take_pair-in-Pair.ensures es st k)
-
-pub returns-in_ok-take_pair-in-Pair : goal.returns-in_ok-take_pair-in-Pair
-unfolding pair_judged
-returns-in_ok-take_pair-in-Pair c es st k = rw c.in-Pair.is (c.in_ok-take_pair-in-Pair.ensures es st k)
 
 pub returns-in_err-check_ending-in-End : goal.returns-in_err-check_ending-in-End
 unfolding pair_judged
