@@ -21,6 +21,7 @@ pub(crate) fn answer(sheet: &[u8], found: &Walked) -> Result<usize, Fault>
 }
 
 // Judges a sheet: its count of components, or its refusal and the byte where the record began.
+#[tactic(auto, using(crate::proofs::RegisterLaws::refused_answer))]
 pub fn check_sheet(sheet: &[u8]) -> Result<usize, Fault>
     ensures { checked_in result ≡ check sheet.now }
 {
