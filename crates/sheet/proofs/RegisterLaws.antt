@@ -9,7 +9,6 @@ use borrow.Author.Tests.{ne_eqb}
 use Rattle.std.specs.Prelude.{Ok, Err}
 use Rattle.std.proofs.lemmas.List.{get_or-drop, get_or-take, length-take}
 use Rattle.budget.proofs.Refusals.{some}
-use Rattle.sheet.specs.declared.contents.Contents as contents
 use Rattle.sheet.specs.declared.fault.Fault.{Fault}
 use Rattle.sheet.specs.declared.walk.Noted.{Noted}
 use Rattle.sheet.specs.declared.walk.Walked.{Walked}
@@ -34,9 +33,9 @@ module _ (s : List ℕ) (f : Fault) where
   unfolding contents_of
   refused_contents e = rw (← e, ne_eqb _ 0 (some f.refusal))
 
-pub taken_contents : (s : List ℕ) (c : contents.Contents) → checked_in (Ok c.count) ≡ check s → c.edges ≡ edges_of s → contents_in (Ok c) ≡ contents_of s
+pub taken_contents : (s : List ℕ) (n : ℕ) (es : List ℕ) → checked_in (Ok n) ≡ check s → es ≡ edges_of s → contents_in (Ok (record { count = n; edges = es })) ≡ contents_of s
 unfolding contents_of
-taken_contents s c e f = rw (← e, f)
+taken_contents s n es e f = rw (← e, f)
 
 module _ (s : List ℕ) (w : Walked) (f : Found s w) where
   counted : (walked s).count ≡ w.state.count

@@ -10,6 +10,7 @@ use crate::pairs::pair_walk;
 use crate::walk::{Walked, walk};
 
 // The answer behind the walk over the components: that of the pairs and the end record behind them.
+#[tactic(auto, using(crate::proofs::RegisterLaws::few, crate::proofs::RegisterLaws::walkable, crate::proofs::RegisterLaws::paired_answer, crate::proofs::RegisterLaws::paired_refused))]
 pub(crate) fn answer(sheet: &[u8], found: &Walked) -> Result<usize, Fault>
     requires { Found sheet.now found.now }
     ensures { checked_in result ≡ check sheet.now }
@@ -21,6 +22,7 @@ pub(crate) fn answer(sheet: &[u8], found: &Walked) -> Result<usize, Fault>
 }
 
 // Judges a sheet: its count of components, or its refusal and the byte where the record began.
+#[tactic(auto, using(crate::proofs::RegisterLaws::refused_answer))]
 pub fn check_sheet(sheet: &[u8]) -> Result<usize, Fault>
     ensures { checked_in result ≡ check sheet.now }
 {

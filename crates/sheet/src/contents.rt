@@ -16,6 +16,7 @@ pub struct Contents {
 }
 
 // Judges a sheet and finds all its components.
+#[tactic(auto, using(crate::proofs::RegisterLaws::refused_answer, crate::proofs::RegisterLaws::refused_contents))]
 pub fn contents_of(sheet: &[u8]) -> Result<Contents, Fault>
     ensures { contents_in result ≡ contents_of sheet.now }
 {

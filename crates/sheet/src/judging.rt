@@ -93,6 +93,7 @@ fn check_standing(state: State, task: Task, stated: bool) -> Result<(), Refusal>
 
 // One record against the state so far: it is taken, or refused where it begins. A pair or the end record ends the components: no state
 // follows.
+#[tactic(auto, unfolding(crate::specs::Judging::judged, crate::specs::Judging::record_refusal, crate::specs::Judging::after, crate::specs::Judging::after_head, crate::specs::Judging::after_task))]
 pub(crate) fn judge(state: State, record: Record) -> Result<Option<State>, Refusal>
     requires { state.place + size_of (said «record») ≤ 65_536 }
     ensures { step_in state result ≡ judged (state_in state) (said «record») }

@@ -69,6 +69,7 @@ fn take_pair(components: &mut [Noted], course: Course, pair: Pair) -> Result<Cou
 }
 
 // One record against the course so far. A component or a task may not stand behind a pair; behind the end record no course follows.
+#[tactic(auto, unfolding(crate::specs::Pairs::pair_judged))]
 fn judge_behind(
     components: &mut [Noted],
     course: Course,
