@@ -12,7 +12,7 @@ use Rattle.sheet.specs.Contents.{Contents}
 use Rattle.sheet.specs.Part.{Located}
 use Rattle.sheet.specs.Answered.{ChecksApart, ContentsApart, PlacesApart, OpeningsApart}
 
-faults_apart : (f g : Fault) → number_of f.refusal ≡ number_of g.refusal → f.place ≡ g.place → f ≡ g
+pub faults_apart : (f g : Fault) → number_of f.refusal ≡ number_of g.refusal → f.place ≡ g.place → f ≡ g
 faults_apart f g e p = ap₂ (λ (r : Refusal) (n : ℕ). record { refusal = r; place = n }) (numbers_apart f.refusal g.refusal e) p
 
 pub checks_apart : ChecksApart

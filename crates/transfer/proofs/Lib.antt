@@ -14,3 +14,4 @@ pub mod PairReads
 pub mod ReadAt
 pub mod ReplyLaws
 pub mod ReadRight
+pub mod Apart

@@ -25,6 +25,10 @@ abbrev pub pair_reading_in : Result Pair Fault → PairReading
 pair_reading_in (Ok p) = record { refusal = refusal.none; place = 0; pair = p }
 pair_reading_in (Err f) = record { refusal = refusal.number_of f.refusal; place = f.place; pair = no_pair }
 
+-- no two readings of the code have the same numbers
+abbrev pub PairReadingsApart : Type 0
+PairReadingsApart = (a b : Result Pair Fault) → pair_reading_in a ≡ pair_reading_in b → a ≡ b
+
 -- a pair record's pair and those behind it; any other record ends them
 unfoldable pub pair_then : Record → List Pair → List Pair
 pair_then (PairRecord p) ps = p ∷ ps

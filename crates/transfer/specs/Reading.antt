@@ -1,5 +1,5 @@
 -- Reading one component: its number and interface from its record, its tasks from the records behind it, and their common period.
-use Rattle.std.specs.Prelude.{ℕ, zero, suc, cond, List, [], ◌∷◌, drop, eqb, Result, Ok, Err}
+use Rattle.std.specs.Prelude.{ℕ, zero, suc, cond, List, [], ◌∷◌, drop, eqb, Result, Ok, Err, ◌≡◌}
 use Rattle.budget.specs.declared.component.Component.{Component}
 use Rattle.budget.specs.declared.right.Known.{Known}
 use Rattle.budget.specs.declared.task.Task.{Task}
@@ -24,6 +24,15 @@ pub record Reading : Type 0 where
 abbrev pub reading_in : Result Known Fault → Reading
 reading_in (Ok c) = record { refusal = refusal.none; place = 0; component = c.component }
 reading_in (Err f) = record { refusal = refusal.number_of f.refusal; place = f.place; component = refused }
+
+-- what is read, without the knowledge that it is right
+abbrev pub component_read : Result Known Fault → Result Component Fault
+component_read (Ok c) = Ok c.component
+component_read (Err f) = Err f
+
+-- no two readings of the code have the same numbers
+abbrev pub ReadingsApart : Type 0
+ReadingsApart = (a b : Result Known Fault) → reading_in a ≡ reading_in b → component_read a ≡ component_read b
 
 -- a task record's task and those behind it; any other record ends them
 unfoldable pub task_then : Record → List Task → List Task

@@ -12,3 +12,4 @@ pub mod Figures
 pub mod WorkloadCommon
 pub mod LoadRight
 pub mod Stored
+pub mod Apart

@@ -1,5 +1,7 @@
 -- The components of a sheet judged in one pass, by rising number: each after its children (RULES 7).
-use Rattle.std.specs.Prelude.{ℕ, zero, suc, cond, List, [], ◌∷◌, ◌++◌, eqb, Result, Ok, Err}
+use Rattle.std.specs.Prelude.{ℕ, zero, suc, cond, List, [], ◌∷◌, ◌++◌, eqb, Option, Some, None, Result, Ok, Err, ◌≡◌}
+use Rattle.budget.specs.declared.component.Component.{Component}
+use Rattle.budget.specs.declared.right.Known.{Known}
 use Rattle.budget.specs.Component.{refused}
 use Rattle.budget.specs.Refusal as refusal
 use Rattle.sheet.specs.declared.fault.Fault.{Fault}
@@ -51,3 +53,18 @@ loaded_in (Err f) = record { refusal = refusal.number_of f.refusal; place = f.pl
 abbrev pub placed_in : Result answer.Placed Fault → Placed
 placed_in (Ok p) = Placed.Found p.number (outcome_in p.outcome)
 placed_in (Err f) = Placed.Refused (refusal.number_of f.refusal) f.place
+
+-- no two answers of the code at a place have the same numbers
+abbrev pub PlacingsApart : Type 0
+PlacingsApart = (a b : Result answer.Placed Fault) → placed_in a ≡ placed_in b → a ≡ b
+
+-- what is loaded, without the knowledge that it is right
+abbrev pub component_in : Option Known → Option Component
+component_in None = None
+component_in (Some k) = Some k.component
+
+-- nor have two that load at a place
+pub record LoadingsApart : Type 0 where
+  pub given : (l m : place.Loaded) → loaded_in (Ok l) ≡ loaded_in (Ok m) → (l.number ≡ m.number) × (component_in l.workload ≡ component_in m.workload)
+  pub refused : (f g : Fault) → loaded_in (Err f) ≡ loaded_in (Err g) → f ≡ g
+  pub either : (l : place.Loaded) (f : Fault) → loaded_in (Ok l) ≡ loaded_in (Err f) → ⊥
