@@ -13,9 +13,9 @@ use Rattle.budget.specs.declared.refusal.Refusal.TheVariants as Refusal
 use Rattle.budget.specs.Answered.{Amount, AmountsApart, CommonPeriod, CommonPeriodsApart}
 use Rattle.budget.specs.Edit.{Edited, EditsApart}
 use Rattle.budget.specs.Refusal as refusal
-use Rattle.budget.specs.Refusal.{NumbersApart}
+use Rattle.budget.specs.Refusal.{SomeNumber, NumbersApart}
 
-pub some : (r : Refusal) → refusal.number_of r ≡ refusal.none → ⊥
+pub some : SomeNumber
 some Refusal.Cut e = omega (arith, e)
 some Refusal.Kind e = omega (arith, e)
 some Refusal.Length e = omega (arith, e)

@@ -99,6 +99,10 @@ abbrev pub number_in : {A : Type 0} → Result A Refusal → ℕ
 number_in (Ok a) = none
 number_in (Err r) = number_of r
 
+-- no refusal has the number that stands for none
+abbrev pub SomeNumber : Type 0
+SomeNumber = (r : Refusal) → number_of r ≡ none → ⊥
+
 -- a number says which refusal it is: no two have the same
 abbrev pub NumbersApart : Type 0
 NumbersApart = (a b : Refusal) → number_of a ≡ number_of b → a ≡ b
