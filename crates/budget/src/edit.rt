@@ -1,5 +1,5 @@
 // Adding a task to a component, and removing one (RULES 11). The common period goes along: adding takes one common multiple with the stored value,
-// removing works it out afresh.
+// removing works it out afresh. Component and task, or component and place, go together as the operations' own arguments.
 ghost use Rattle.std.specs.Prelude.{◌≡◌, ◌++◌, ◌+◌, ◌≤◌, ◌<◌, length};
 ghost use Rattle.budget.specs.Common.{common_of};
 ghost use Rattle.budget.specs.Component.{Right, with_tasks};

@@ -30,8 +30,8 @@ pub struct Pair {
     pub parent: u16,
 }
 
-// A record. Of a task it is told whether its J is stated; behind the task that flag made the check of a sheet of tasks slower by 15
-// to 24 in a hundred (measured).
+// A record. Of a task it is told whether its J is stated, as TaskRecord of specs/Record.antt has it. The flag is declared before the task: with
+// the two in the other order the check of a sheet of tasks was slower by 15 to 24 in a hundred (measured).
 #[derive(Clone, Copy)]
 pub enum Record {
     Component(Head),

@@ -44,7 +44,7 @@ fn task_record(task: Task) -> Record
     }
 }
 
-// The bytes of a table's task records.
+// How many bytes a table's task records have.
 fn tasks_size(table: Table) -> usize
     requires { table.count ≤ 64 }
     ensures { result ≡ length (tasks_bytes (tasks_of table)) }
