@@ -20,10 +20,11 @@ pub(crate) fn append_all(table: Table, tasks: &[Task]) -> Table
     requires room { table.count + length tasks.now ≤ most_tasks }
     ensures { result ≡ table_of (tasks_of table ++ tasks.now) }
 {
+    let count = table.count;
+    let end = count + tasks.len();
     let mut longer = table;
-    for task in tasks {
-        longer = append(longer, *task);
-    }
+    longer.tasks[count..end].copy_from_slice(tasks);
+    longer.count = end;
     longer
 }
 

@@ -9,7 +9,7 @@ ghost use Rattle.record.specs.inner.Narrow.{Held};
 use crate::field::number_in;
 use crate::kind::Kind;
 use crate::row::Values;
-use budget::component::Capacity;
+use budget::component::{Capacity, Component};
 use budget::quantity::{Time, Units};
 use budget::refusal::Refusal;
 use budget::task::Task;
@@ -38,6 +38,27 @@ pub enum Record {
     Task { stated: bool, task: Task },
     Pair(Pair),
     End(u16),
+}
+
+// What a component's record says of it: all but its stored common period and its tasks.
+impl From<Component> for Head {
+    ghost from_gives = { λ component head. head ≡ record { number = component.number; period = component.period; capacity = component.capacity; deadline = component.deadline } };
+
+    fn from(component: Component) -> Head {
+        let Component {
+            number,
+            period,
+            capacity,
+            deadline,
+            ..
+        } = component;
+        Head {
+            number,
+            period,
+            capacity,
+            deadline,
+        }
+    }
 }
 
 impl Head {
