@@ -5,11 +5,7 @@ use mathlib.Core.Path.{◌≡◌, refl, sym, ◌∙◌, ap}
 use native.Mathlib.Omega.{arith}
 use lib.Dec.{eqb}
 use Rattle.std.proofs.Common.{Ok, Err}
-use Rattle.budget.specs.declared.component.Component.{Component}
-use Rattle.budget.specs.declared.quantity.Time.{Time}
-use Rattle.budget.specs.declared.quantity.Units.{Units}
 use Rattle.budget.specs.declared.refusal.Refusal.{Refusal}
-use Rattle.budget.specs.declared.refusal.Refusal.TheVariants as Refusal
 use Rattle.budget.specs.Answered.{Amount, AmountsApart, CommonPeriod, CommonPeriodsApart}
 use Rattle.budget.specs.Edit.{Edited, EditsApart}
 use Rattle.budget.specs.Refusal as refusal

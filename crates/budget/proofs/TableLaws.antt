@@ -1,11 +1,13 @@
 -- Tables as they are returned, zero from the count on: the tasks read back, and a task appended to such a table gives such a table.
 use Prim.Native.Nat.{ℕ, suc, ◌+◌, ◌-◌, ◌≤◌, ◌<◌}
-use mathlib.Core.Path.{◌≡◌, sym, ◌∙◌, ap}
-use mathlib.Core.List.{List, [], ◌∷◌, ◌++◌}
+use mathlib.Core.Path.{◌≡◌, refl, sym, ◌∙◌, ap}
+use mathlib.Core.List.{List, [], ◌∷◌, ◌++◌, append_assoc}
 use native.Mathlib.Omega.{arith}
 use lib.ListN.{length, replicate, length-append, length-take}
-use lib.Seq.{set-append_seam, append_snoc, take-append_seam}
+use lib.Seq.{set-append_seam, append_snoc, take-append_seam, drop-append_seam}
 use borrow.Author.Tests.{lt-ltb}
+use borrow.Rule.Slice.PartMut.{put_mid}
+use Rattle.std.proofs.lemmas.List.{drop-replicate}
 use Rattle.budget.specs.declared.task.Task.{Task}
 use Rattle.budget.specs.declared.task.Table.{Table}
 use Rattle.budget.specs.Limits.{most_tasks}
@@ -39,6 +41,15 @@ pub append_returned : (t : Table) (ks : List Task) (k : Task) → t ≡ table_of
 unfolding appended table_of
 append_returned t ks k e h =
     rw (e, lt-ltb _ _ h, length-append ks (k ∷ []), places_left (length ks) h, set-append_seam, append_snoc)
+
+-- tasks copied behind those of such a table give such a table
+pub extended : (t : Table) (ks new : List Task) → t ≡ table_of ks → t.count + length new ≤ most_tasks
+    → record { count = t.count + length new; tasks = put_mid t.count (t.count + length new - t.count) t.tasks new } ≡ table_of (ks ++ new)
+unfolding table_of
+extended t ks new e h =
+    let long : length ks + length new - length ks ≡ length new = omega arith in
+    let rest : most_tasks - length ks - length new ≡ most_tasks - (length ks + length new) = omega arith in
+    rw (e, long, take-append_seam, drop-append_seam, drop-replicate, length-append, rest, append_assoc) refl
 
 -- a table in range has no more tasks than it has places for
 pub few : (t : Table) → t.count ≤ most_tasks → length (tasks_of t) ≤ most_tasks

@@ -8,7 +8,8 @@ ghost use Rattle.budget.specs.Task.{tasks_of};
 use crate::quantity::Time;
 use crate::task::Table;
 
-// The stored common period: L, or that L is above the limit. It is no `Option`: there is an L in either case, and `None` would say that there is none.
+// The stored common period: L, or that L is above the limit. It is no `Option`: there is an L in either case, and `None` would say that there is none;
+// and StoredMeans of crate promises speaks of the two cases by name.
 #[derive(Clone, Copy, PartialEq, Eq)]
 pub enum Common {
     Within(Time),
@@ -65,7 +66,7 @@ pub fn common_of(period: Time, table: Table) -> Common
     common
 }
 
-// Whether two stored values are the same, as derived equality has it.
+// Whether two stored values are the same, as derived equality has it: an operation that docs/CLAIMS names, with a clause that is_right passes on.
 pub fn same_common(a: Common, b: Common) -> bool
     ensures { result ≡ same_common a b }
 {

@@ -9,7 +9,7 @@ use crate::component::{Component, check_held};
 use crate::quantity::Time;
 use crate::refusal::Refusal;
 
-// What a stored value says: L, or 10 for the mark.
+// What a stored value says: L, or 10 for the mark. (No `TryFrom`: its body would be this match, and its clause a ghost member beside it.)
 #[tactic(auto, unfolding(crate::specs::inner::Stored::stored_answer))]
 pub(crate) fn stored(common: Common) -> Result<Time, Refusal>
     ensures { common_period_in result ≡ stored_answer common }

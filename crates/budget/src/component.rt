@@ -9,7 +9,7 @@ use crate::quantity::{Time, Units};
 use crate::refusal::Refusal;
 use crate::task::{Table, check_table, no_tasks};
 
-// The capacity of a component: stated in units, or asked for. The rules name it as an enum of these two (RULES 2).
+// The capacity of a component: stated in units, or asked for (RULES 2). An enum that carries its value is the named form (docs/DECISIONS, "Named forms").
 #[derive(Clone, Copy, PartialEq, Eq)]
 pub enum Capacity {
     Stated(Units),

@@ -10,6 +10,7 @@ use crate::refusal::Refusal;
 use crate::task::{Table, Task, check_table, span};
 
 // The units of a task's jobs that fall due by `at`, where each is ready as late as it may be. Before the first deadline there are none.
+// The bounds stay in the contracts: t is the operation's own argument, and a type for an instant in range would ask every caller to make one.
 #[tactic(auto, unfolding(crate::specs::Demand::jobs_by))]
 fn units_of(task: Task, at: u32) -> u32
     requires { (valid_task task ≡ true) × (at ≤ limit) }

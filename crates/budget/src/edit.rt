@@ -1,5 +1,5 @@
 // Adding a task to a component, and removing one (RULES 11). The common period goes along: adding takes one common multiple with the stored value,
-// removing works it out afresh.
+// removing works it out afresh. Component and task, or component and place, go together as the operations' own arguments.
 ghost use Rattle.std.specs.Prelude.{◌≡◌, ◌++◌, ◌+◌, ◌≤◌, ◌<◌, length};
 ghost use Rattle.budget.specs.Common.{common_of};
 ghost use Rattle.budget.specs.Component.{Right, with_tasks};
@@ -20,10 +20,11 @@ pub(crate) fn append_all(table: Table, tasks: &[Task]) -> Table
     requires room { table.count + length tasks.now ≤ most_tasks }
     ensures { result ≡ table_of (tasks_of table ++ tasks.now) }
 {
+    let count = table.count;
+    let end = count + tasks.len();
     let mut longer = table;
-    for task in tasks {
-        longer = append(longer, *task);
-    }
+    longer.tasks[count..end].copy_from_slice(tasks);
+    longer.count = end;
     longer
 }
 

@@ -27,7 +27,7 @@ impl Interface {
     pub const LONGEST_PERIOD: u32 = Time::LIMIT;
 }
 
-// The dedicated processor, as the constant has it.
+// The dedicated processor, as the constant has it: an operation that docs/CLAIMS names (RULES 11).
 pub fn dedicated() -> Interface
     ensures { result ≡ dedicated }
 {

@@ -20,6 +20,7 @@ pub fn make_component(
 ) -> Result<Component, Refusal>
     ensures { edited_in result ≡ making_answer number period capacity deadline table }
 {
+    // The numbers before L is known, as `unmade` of specs/Make.antt has them: the stored value is not looked at by check_ranges.
     let unmade = Component {
         number,
         period,

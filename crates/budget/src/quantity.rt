@@ -1,4 +1,5 @@
 // Slots of time and units of service (RULES 1), each a type of its own, so that neither can stand where the other belongs.
+// No order is derived: each chain of bounds has both in it (C ≤ D ≤ T), which the types keep apart, so bounds compare the plain numbers.
 ghost use Rattle.std.specs.Prelude.{◌≡◌, cond, leb};
 ghost use Rattle.budget.specs.Limits.{limit};
 ghost use Rattle.budget.specs.Refusal as refusal;

@@ -11,6 +11,7 @@ use crate::refusal::Refusal;
 
 // The fewest units in `at` slots of an interface in range. Behind the wait the worst case goes period by period: a pause of Π − Θ slots, then
 // the capacity, a unit a slot. Whole periods and the rest, the slots of the period begun, come from one division.
+// `at ≤ limit` stays in the contract: t is the operation's own argument, and a type for an instant in range would ask every caller to make one.
 fn units_by(interface: Interface, at: u32) -> u32
     requires in_range { valid_interface interface ≡ true }
     requires in_time { at ≤ limit }

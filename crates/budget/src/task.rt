@@ -7,7 +7,7 @@ ghost use Rattle.budget.specs.Task.{span, task_refusal, table_refusal, tasks_of,
 use crate::quantity::{Time, Units};
 use crate::refusal::Refusal;
 
-// A sporadic task: period T, work C, deadline D, lateness J: a job may become ready up to J slots after its release, and its
+// A sporadic task: period T, work C, deadline D, lateness J. A job may become ready up to J slots after its release, and its
 // deadline counts from its release all the same.
 #[derive(Clone, Copy, PartialEq, Eq)]
 pub struct Task {

@@ -3,7 +3,7 @@ ghost use Rattle.std.specs.Prelude.{◌≡◌, ◌^◌, ◌≤◌, ◌<◌, leng
 ghost use Rattle.record.specs.Field.{encode, field};
 
 // The number that stands in a field. By u32::from_le_bytes of a copy that is filled up, records with a stated J took up to twice as
-// long (measured).
+// long to read (measured).
 pub(crate) fn number_in(bytes: &[u8]) -> u32
     requires { length bytes.now ≤ 4 }
     ensures value { result ≡ field bytes.now 0 (length bytes.now) }

@@ -9,7 +9,7 @@ ghost use Rattle.record.specs.inner.Narrow.{Held};
 use crate::field::number_in;
 use crate::kind::Kind;
 use crate::row::Values;
-use budget::component::Capacity;
+use budget::component::{Capacity, Component};
 use budget::quantity::{Time, Units};
 use budget::refusal::Refusal;
 use budget::task::Task;
@@ -30,14 +30,35 @@ pub struct Pair {
     pub parent: u16,
 }
 
-// A record. Of a task it is told whether its J is stated; behind the task that flag made the check of a sheet of tasks slower by 15
-// to 24 in a hundred (measured).
+// A record. Of a task it is told whether its J is stated, as TaskRecord of specs/Record.antt has it. The flag is declared before the task: with
+// the two in the other order the check of a sheet of tasks was slower by 15 to 24 in a hundred (measured).
 #[derive(Clone, Copy)]
 pub enum Record {
     Component(Head),
     Task { stated: bool, task: Task },
     Pair(Pair),
     End(u16),
+}
+
+// What a component's record says of it: all but its stored common period and its tasks.
+impl From<Component> for Head {
+    ghost from_gives = { λ component head. head ≡ record { number = component.number; period = component.period; capacity = component.capacity; deadline = component.deadline } };
+
+    fn from(component: Component) -> Head {
+        let Component {
+            number,
+            period,
+            capacity,
+            deadline,
+            ..
+        } = component;
+        Head {
+            number,
+            period,
+            capacity,
+            deadline,
+        }
+    }
 }
 
 impl Head {

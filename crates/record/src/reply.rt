@@ -19,6 +19,7 @@ pub struct Reply {
     pub stands: Time,
 }
 
+// A reply's kind: its own (RULES 14), and none of `Kind`, which has those of a sheet (RULES 10).
 const REPLY: u16 = 16;
 
 // Writes a reply from a place on, and answers the place behind it.

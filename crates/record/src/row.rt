@@ -17,7 +17,7 @@ pub(crate) struct Row {
     ghost narrow: { IsTrue (narrowly widths) },
 }
 
-// The values of a row's fields; behind the last it is 0.
+// The values of a row's fields in their order, filled up with 0 to eight.
 pub(crate) type Values = [u32; FIELDS];
 
 impl Row {
@@ -29,7 +29,7 @@ impl Row {
         self.widths.iter().sum()
     }
 
-    // The values that stand in the row that begins a slice.
+    // The values that stand in the row that begins a slice. By index: of what a zip with iter_mut has written a proof knows nothing.
     pub(crate) fn values_at(self, bytes: &[u8]) -> Values
         requires { row_length self.widths ≤ length bytes.now }
         ensures values { result ≡ values_at self.widths bytes.now 0 }
@@ -45,7 +45,7 @@ impl Row {
         values
     }
 
-    // The values of a record: in front of its fields the length that its row gives it, and its kind.
+    // The values of a record: in front of its fields the length that its row gives it, and its kind, as a number since a reply's is no `Kind`.
     pub(crate) fn headed(self, kind: u16, fields: Values) -> Values
         ensures { result ≡ headed self.widths kind fields }
     {

@@ -1,4 +1,5 @@
-// Storing a row of values, or a record, at a place of a buffer (RULES 10, 11).
+// Storing a row of values, or a record, at a place of a buffer (RULES 10, 11). Each writer takes a buffer and a place, and has the same two
+// clauses for its own bytes, since the rules name that form: into a buffer from a given place on (docs/DECISIONS, "Named forms").
 ghost use Rattle.std.specs.Prelude.{◌≡◌, length};
 ghost use Rattle.budget.specs.Refusal.{number_in};
 ghost use Rattle.record.specs.Layout.{record_bytes, size_of};
@@ -21,7 +22,7 @@ pub fn check_room(room: usize, at: usize, size: usize) -> Result<(), Refusal>
     Ok(())
 }
 
-// The row is put by a function that is lent the part of the buffer from its place on, and fills only the row.
+// Writes a row of values from a place on, and answers the place behind it. `put` is lent the buffer from that place on, and fills only the row.
 #[tactic(auto, unfolding(crate::specs::Writing::room_refusal))]
 pub(crate) fn write_row(
     buffer: &mut [u8],

@@ -1,5 +1,5 @@
 -- No two readings of the code have the same numbers: what is read and a fault are fields of what they are read as.
-use mathlib.Core.Path.{◌≡◌, sym, ap}
+use mathlib.Core.Path.{sym, ap}
 use Rattle.std.specs.Prelude.{Ok, Err}
 use Rattle.budget.proofs.Refusals.{some}
 use Rattle.sheet.proofs.Apart.{faults_apart}

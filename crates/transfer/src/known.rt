@@ -1,4 +1,5 @@
 // Writing a component whose stored common period is known to be right (budget::known): as the public operation, without working the true one out.
+// It differs from that one in the check that it makes first: a parameter for that check would be longer than both.
 ghost use Rattle.std.specs.Prelude.{◌≡◌, length};
 ghost use Rattle.record.specs.Writing.{written, written_in, buffered};
 ghost use Rattle.transfer.specs.Writing.{component_bytes, writing_refusal};

@@ -13,8 +13,8 @@ use sheet::check::MOST_COMPONENTS;
 use sheet::contents::contents_of;
 use sheet::fault::Fault;
 
-// The pairs of a sheet, the first `count`; the places behind them are zero. The count stands beside the places because memory is fixed, and the kit's
-// ArrayVec is made with an allocator.
+// The pairs of a sheet, the first `count`; the places behind them are zero. The count stands beside the places because memory is fixed;
+// no ArrayVec, since the fields are public and read_pairs' clause says what both are (pair_table).
 #[derive(Clone, Copy)]
 pub struct Pairs {
     pub count: usize,
@@ -42,7 +42,7 @@ fn pair_of(rest: &[u8]) -> Option<Pair>
     }
 }
 
-// Reads the pair records at the front of some bytes, for those behind the last component of a sheet.
+// Reads the pair records at the front of some bytes. In a sheet these are the bytes behind its last component.
 pub fn read_pairs(rest: &[u8]) -> Pairs
     ensures { result ≡ pair_table (pairs_in 256 rest.now) }
 {

@@ -58,7 +58,7 @@ fn with_head(head: Head, table: Table) -> Known
     }
 }
 
-// What stands for a component that isn't read.
+// What stands for a component that isn't read: the stand-in that RULES 11 names, as a component that stores its own common period.
 fn none_read() -> Known
     ensures { result.component ≡ refused }
 {
@@ -90,7 +90,8 @@ pub fn read_component(sheet: &[u8], place: usize) -> Result<Known, Fault>
     Ok(read_part(&sheet[found.span.from..found.span.to]))
 }
 
-// The part of a sheet between two edges that are known, without another walk. Edges that do not lie in the sheet in their order hold an empty one.
+// The part of a sheet between two edges that are known, without another walk. Edges that do not lie in the sheet in their order hold
+// an empty one: a part that can't be answered is empty (RULES 11).
 pub fn part_at<'a>(sheet: &'a [u8], edges: &[usize; 257], place: usize) -> &'a [u8]
     ensures { result.now ≡ part_at sheet.now edges.now place }
 {

@@ -9,7 +9,7 @@ pub use record::reply::{Reply, write_reply};
 use record::write::write_numbers;
 use sheet::fault::Fault;
 
-// A number as a field of 4 bytes keeps it.
+// A number as a field of 4 bytes keeps it. `%` before the cast, since write_checked answers every count and every place, above 32 bits too.
 fn low(number: usize) -> u32
     ensures { result ≡ number % 4_294_967_296 }
 {

@@ -15,25 +15,6 @@ use record::layout::{Head, Record};
 use record::write::{check_room, size_of, write_record};
 use sheet::check::MOST_COMPONENTS;
 
-// What a component's record says. (No `From`: its types are of crates below.)
-fn head_of(component: Component) -> Head
-    ensures { result ≡ record { number = component.number; period = component.period; capacity = component.capacity; deadline = component.deadline } }
-{
-    let Component {
-        number,
-        period,
-        capacity,
-        deadline,
-        ..
-    } = component;
-    Head {
-        number,
-        period,
-        capacity,
-        deadline,
-    }
-}
-
 // A task's record states its J exactly where that is not 0: the form that a sheet takes.
 fn task_record(task: Task) -> Record
     ensures { said result ≡ TaskRecord (ltb 0 (J task)) task }
@@ -44,7 +25,7 @@ fn task_record(task: Task) -> Record
     }
 }
 
-// The bytes of a table's task records.
+// How many bytes a table's task records have.
 fn tasks_size(table: Table) -> usize
     requires { table.count ≤ 64 }
     ensures { result ≡ length (tasks_bytes (tasks_of table)) }
@@ -72,7 +53,7 @@ fn component_size(component: Component) -> usize
     requires { component.table.count ≤ 64 }
     ensures { result ≡ length (component_bytes component) }
 {
-    size_of(Record::Component(head_of(component))) + tasks_size(component.table)
+    size_of(Record::Component(Head::from(component))) + tasks_size(component.table)
 }
 
 // Writes the records of a component that is not refused when it is handed in: without room for all of them none.
@@ -82,7 +63,7 @@ pub(crate) fn store(buffer: &mut [u8], at: usize, component: Component) -> Resul
     ensures bytes { buffer.new ≡ buffered (writing_refusal (length buffer.old) at component) buffer.old at (component_bytes component) }
 {
     check_room(buffer.len(), at, component_size(component))?;
-    let place = write_record(buffer, at, Record::Component(head_of(component)))?;
+    let place = write_record(buffer, at, Record::Component(Head::from(component)))?;
     write_tasks(buffer, place, component.table)
 }
 

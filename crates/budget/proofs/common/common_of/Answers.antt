@@ -1,5 +1,5 @@
 -- The common period is worked out task by task: one more is the one at the place, and at the end none is left.
-use mathlib.Core.Path.{◌≡◌, sym, ◌∙◌, ap}
+use mathlib.Core.Path.{sym, ◌∙◌, ap}
 use lib.ListN.{drop_of_length-le}
 use Rattle.budget.specs.Common.{common_of, grown_by}
 use Rattle.budget.proofs.Places.{from_place}

@@ -10,7 +10,6 @@ use borrow.Author.Rules.{rules}
 use Rattle.std.proofs.lemmas.List.{take_all}
 use Rattle.budget.specs.declared.task.Table.{Table}
 use Rattle.budget.specs.declared.task.Task.{Task}
-use Rattle.budget.specs.Component.{with_tasks}
 use Rattle.budget.specs.Edit.{removed}
 use Rattle.budget.specs.Limits.{most_tasks}
 use Rattle.budget.specs.Task.{tasks_of, table_of}

@@ -1,8 +1,6 @@
 -- Removing a task of a component whose stored value is right answers as defined: what the ranges are refused for, or what is removed of it.
-use mathlib.Core.Path.{◌≡◌, sym, ◌∙◌, ap}
+use mathlib.Core.Path.{sym, ◌∙◌, ap}
 use Rattle.std.proofs.lemmas.Result.{err_from_is_err_and}
-use Rattle.budget.specs.declared.component.Component.{Component}
-use Rattle.budget.specs.Component.{Right}
 use Rattle.budget.specs.Edit.{Edited}
 use Rattle.budget.proofs.EditRight.{removed_right}
 use Rattle.budget.proofs.Edits.{removing_ranges, removing_taken}

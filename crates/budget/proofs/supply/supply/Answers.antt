@@ -1,5 +1,4 @@
 -- Supply answers as defined: the refusal met first, or the supply of an interface that is in range.
-use Prim.Native.Nat.{ℕ}
 use mathlib.Core.Bool.{true}
 use mathlib.Core.Path.{◌≡◌, sym}
 use Rattle.std.proofs.lemmas.Result.{err_from_is_err_and}

@@ -10,7 +10,7 @@ use Rattle.transfer.proofs.write.component_size.Goals.{After-size_of}
 -- the head's size
 size : (c : After-size_of) → c.size_of.result ≡ head_size c.args.component.capacity
 unfolding size_of
-size c = c.size_of.ensures ∙ ap (λ (h : Head). head_size h.capacity) c.head_of.ensures
+size c = c.size_of.ensures ∙ ap (λ (h : Head). head_size h.capacity) c.from.ensures
 
 pub overflow_add-result : goal.overflow_add-result
 overflow_add-result c = let h = most_head c.args.component.capacity in

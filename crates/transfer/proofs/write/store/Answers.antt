@@ -37,7 +37,7 @@ pub returns-in_err-place : goal.returns-in_err-place
 unfolding record_bytes
 returns-in_err-place c =
     let a = c.args in
-    let e = rw c.head_of.ensures at c.in_err-place.ensures in
+    let e = rw c.from.ensures at c.in_err-place.ensures in
     absurd (head_given a.buffer.now a.at a.component (fits (goal.at.returns-in_err-place c).In_ok-check_room) c.in_err-place.field-0.0 e.answer)
 
 pub write_tasks-requires : goal.write_tasks-requires
@@ -45,7 +45,7 @@ unfolding record_bytes
 write_tasks-requires c =
     let a = c.args in
     let f = fits (goal.at.write_tasks-requires c).In_ok-check_room in
-    let e = rw c.head_of.ensures at c.in_ok-place.ensures in
+    let e = rw c.from.ensures at c.in_ok-place.ensures in
     let p = head_place a.buffer.now a.at a.component f (written_in (Ok c.in_ok-place.place)) e.answer in
     let n = head_long a.buffer.now a.at a.component f c.write_record.new.buffer e.bytes in
     omega (arith, p, n, f, component_length a.component)
@@ -56,7 +56,7 @@ returns c =
     let a = c.args in
     let g = given (goal.at.returns c).In_ok-check_room in
     let f = fits (goal.at.returns c).In_ok-check_room in
-    let e = rw c.head_of.ensures at c.in_ok-place.ensures in
+    let e = rw c.from.ensures at c.in_ok-place.ensures in
     let p = head_place a.buffer.now a.at a.component f (written_in (Ok c.in_ok-place.place)) e.answer in
     record {
       answer = rw c.write_tasks.ensures.place (stored_answer a.buffer.now a.at a.component c.requires g _ (omega (arith, p, component_length a.component)));
