@@ -55,7 +55,7 @@ pub(crate) fn least_capacity(component: Component, length: Time) -> Option<Units
 {
     let mut steps = Steps::new(component.table.tasks());
     let mut capacity = Units(0);
-    // The rules name this form: the walk leaves at the instant that decides, with the capacity as its value. No index is counted.
+    // docs/DECISIONS ("Named forms") fixes this form: the walk leaves at the instant that decides, with the capacity as its value. No index is counted.
     let found = 'instants: loop {
         if length.0 < steps.at {
             break 'instants Some(capacity);

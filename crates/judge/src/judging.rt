@@ -35,6 +35,7 @@ fn at_smallest(component: Component, length: Time) -> Judgement
 {
     match least_capacity(component, length) {
         Some(capacity) => at_capacity(component, capacity, length),
+        // Where there is none, the capacity that the answer speaks of is 0 (RULES 11).
         None => Judgement {
             capacity: Units(0),
             verdict: Verdict::None,

@@ -12,7 +12,8 @@ use budget::task::Task;
 // The most jobs that a walk takes.
 pub const MOST: usize = 1_024;
 
-// The jobs of a run, as the columns of their tasks' numbers, their releases, their readiness slots and their works.
+// The jobs of a run, as the columns of their tasks' numbers, their releases, their readiness slots and their works. RULES 9 gives them as four rows; rows
+// of unequal lengths are refused with 12, so that one length is no invariant here, and a function that goes by place asks for it.
 #[derive(Clone, Copy)]
 pub struct Jobs<'a> {
     pub tasks: &'a [u32],
@@ -63,7 +64,7 @@ impl Job {
             || i64::from(self.release) + i64::from(period) <= i64::from(later.release)
     }
 
-    // Whether it goes before a later job, the period of its task between their releases if that is of its task too.
+    // Whether a later job is sorted behind it and, if it is of the same task, keeps its distance.
     fn is_before(self, later: Job, period: u32) -> bool
         ensures { result ≡ (in_order (job_in self) (job_in later) && (not (eqb self.task later.task) || le_z (self.release +ℤ pos period) later.release)) }
     {
@@ -99,6 +100,7 @@ impl Jobs<'_> {
         ensures { (ks : List Task) → T (task_of ks (get_or (jobs_in self.now) i no_job)) ≡ period → result ≡ before_all ks (get_or (jobs_in self.now) i no_job) (drop (suc i) (jobs_in self.now)) }
     {
         let job = self.at(i);
+        // By place, since a job is four columns' numbers there.
         (i + 1..self.tasks.len()).all(|k| job.is_before(self.at(k), period))
     }
 
@@ -120,6 +122,7 @@ impl Jobs<'_> {
         requires { OneLength self.now }
         ensures { result ≡ legal_arrival table.now (jobs_in self.now) }
     {
+        // By place, since a job is four columns' numbers there.
         (0..self.tasks.len()).all(|i| self.is_legal_at(table, i))
     }
 
@@ -151,6 +154,7 @@ impl Jobs<'_> {
         requires { OneLength self.now × (length due.old ≡ length self.now.tasks.now) × ((k : ℕ) → k < length self.now.tasks.now → Timely table.now (get_or (jobs_in self.now) k no_job)) }
         ensures { due.new ≡ map (deadline table.now) (jobs_in self.now) }
     {
+        // The place goes along, since a job is four columns' numbers there.
         for (i, due) in due.iter_mut().enumerate() {
             let job = self.at(i);
             *due = job.deadline(table[job.task as usize].deadline.0);

@@ -17,7 +17,8 @@ pub(crate) enum Given {
     Idle,
 }
 
-// The jobs of a run with the deadline of each; a table has a task for each number.
+// The jobs of a run with the deadline of each, and each task's number below the most tasks. The work left is lent for writing and so no field: that it is as
+// long, and of which tasks these are the deadlines, stands in the contracts.
 #[derive(Clone, Copy)]
 pub(crate) struct Timed<'a> {
     pub jobs: Jobs<'a>,
@@ -34,6 +35,7 @@ impl Timed<'_> {
         ensures value { (ks : List Task) → Deadlines ks (jobs_in self.now.jobs) self.now.due.now → unwrap_or result (length left.now) ≡ next ks n (jobs_in self.now.jobs) left.now }
         ensures waiting { IfSome result (λ p. (p < length left.now) × (0 < get_or left.now p 0)) }
     {
+        // By place, since the columns and the work left are read together there.
         (0..left.len())
             .filter(|&i| self.jobs.ready[i] <= n && 0 < left[i])
             .map(|i| (self.due[i], self.jobs.tasks[i], i))
@@ -47,6 +49,7 @@ impl Timed<'_> {
         ensures value { (ks : List Task) → Deadlines ks (jobs_in self.now.jobs) self.now.due.now → unwrap_or result most_tasks ≡ late_task ks t (jobs_in self.now.jobs) left.now }
         ensures numbered { IfSome result (λ k. k < most_tasks) }
     {
+        // By place, since the columns and the work left are read together there.
         (0..left.len())
             .filter(|&i| self.due[i] == t && 0 < left[i])
             .map(|i| self.jobs.tasks[i])
