@@ -53,8 +53,7 @@ fn raised(interface: Interface, step: Step) -> Option<Units>
 pub(crate) fn least_capacity(judgeable: Judgeable) -> Option<Units>
     ensures { result ≡ capacity_found judgeable.component }
 {
-    let component = judgeable.component;
-    let mut steps = Steps::new(component.table.tasks());
+    let mut steps = Steps::new(judgeable.component.table.tasks());
     let mut capacity = Units(0);
     // docs/DECISIONS ("Named forms") fixes this form: the walk leaves at the instant that decides, with the capacity as its value. No index is counted.
     let found = 'instants: loop {
@@ -62,7 +61,7 @@ pub(crate) fn least_capacity(judgeable: Judgeable) -> Option<Units>
             break 'instants Some(capacity);
         }
         let step = steps.pass();
-        let Some(enough) = raised(interface_at(component, capacity), step) else {
+        let Some(enough) = raised(interface_at(judgeable.component, capacity), step) else {
             break 'instants None;
         };
         capacity = enough;

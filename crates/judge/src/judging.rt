@@ -18,9 +18,12 @@ fn at_capacity(judgeable: Judgeable, capacity: Units) -> Judgement
     requires { capacity.0 ≤ judgeable.component.deadline.0 }
     ensures { judgement_in result ≡ answer_at judgeable.component (Capacity.Stated capacity) }
 {
-    let component = judgeable.component;
-    let interface = interface_at(component, capacity);
-    let found = scan(component.table.tasks(), interface, judgeable.length);
+    let interface = interface_at(judgeable.component, capacity);
+    let found = scan(
+        judgeable.component.table.tasks(),
+        interface,
+        judgeable.length,
+    );
     Judgement {
         capacity,
         verdict: verdict_from(found.short),
