@@ -2,22 +2,17 @@
 use Prim.Native.Nat.{ℕ}
 use mathlib.Core.Path.{◌≡◌, refl, sym, ap, ◌∙◌}
 use Rattle.std.proofs.Common.{Ok, Err}
-use Rattle.std.specs.Prelude.{Option, Result, Some, None}
+use Rattle.std.specs.Prelude.{Option, Some, None}
 use Rattle.budget.specs.declared.quantity.Units.{Units}
-use Rattle.budget.specs.declared.refusal.Refusal.{Refusal}
 use Rattle.budget.proofs.Refusals.{some, numbers_apart}
 use Rattle.judge.specs.declared.answer.Judgement.{Judgement}
 use Rattle.judge.specs.declared.answer.Margin.{Margin}
 use Rattle.judge.specs.declared.answer.Verdict.{Verdict}
-use Rattle.judge.specs.declared.answer.Verdict.TheVariants as Verdict
 use Rattle.judge.specs.numbers.Answer.{Answer}
-use Rattle.judge.specs.numbers.Judged as Judged
 use Rattle.judge.specs.numbers.Judged.{Judged}
-use Rattle.judge.specs.numbers.Margined as Margined
 use Rattle.judge.specs.numbers.Margined.{Margined}
-use Rattle.judge.specs.numbers.Smallest as Smallest
 use Rattle.judge.specs.numbers.Smallest.{Smallest}
-use Rattle.judge.specs.Answer.{AnswersApart, judgement_in}
+use Rattle.judge.specs.Answer.{AnswersApart}
 use Rattle.judge.specs.Capacity.{CapacitiesApart}
 use Rattle.judge.specs.Margin.{margin_in}
 

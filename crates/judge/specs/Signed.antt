@@ -1,4 +1,4 @@
--- A signed margin as the host's reply (RULES 14) and a line of the listing (RULES 15) hold it.
+-- Of a signed margin: whether it is negative, and its 32 bits, which the host's reply holds (RULES 14).
 use Rattle.std.specs.Prelude.{ℕ, ◌-◌, Bool, true, false, ℤ, pos, negsuc}
 
 -- `negsuc n` is −(n + 1)

@@ -1,7 +1,8 @@
 // What the judge answers: a verdict and a margin, a smallest capacity (RULES 7, 8).
 use budget::quantity::{Time, Units};
 
-// The verdict: accepted, short with the first short instant, or none where a capacity was asked and there is none.
+// The verdict: accepted, short with the first short instant, or none where a capacity was asked and there is none. No Option or Result: docs/DECISIONS
+// ("Named forms") fixes this enum.
 #[derive(Clone, Copy, PartialEq, Eq)]
 pub enum Verdict {
     Accepted,

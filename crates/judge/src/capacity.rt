@@ -3,14 +3,15 @@ ghost use Rattle.std.specs.Prelude.{◌≡◌};
 ghost use Rattle.judge.specs.Capacity.{capacity_answer, smallest_in};
 ghost use Rattle.judge.specs.inner.Raise.{Raised};
 ghost use Rattle.judge.specs.inner.Scan.{Supplied};
-ghost use Rattle.judge.specs.inner.Whole.{Whole, capacity_found};
+ghost use Rattle.judge.specs.inner.Whole.{capacity_found};
 
+use crate::judgeable::Judgeable;
 use crate::steps::{Step, Steps};
 use crate::supplied::units_at;
 use budget::common_period::common_period;
 use budget::component::{Component, interface_at};
 use budget::interface::Interface;
-use budget::quantity::{Time, Units};
+use budget::quantity::Units;
 use budget::refusal::Refusal;
 
 // The smallest capacity from the interface's on that supplies this demand at this instant. Supply grows with the capacity, so halving finds it.
@@ -47,21 +48,20 @@ fn raised(interface: Interface, step: Step) -> Option<Units>
     Some(Units(low))
 }
 
-// The smallest capacity from 0 to the deadline that fits at every instant up to `length`. Supply grows with the capacity, so what each step instant
+// The smallest capacity from 0 to the deadline that fits at every instant up to L. Supply grows with the capacity, so what each step instant
 // needs is taken one by one; the walk stops at the first that needs more than the deadline.
-pub(crate) fn least_capacity(component: Component, length: Time) -> Option<Units>
-    requires { Whole component length.0 }
-    ensures { result ≡ capacity_found component }
+pub(crate) fn least_capacity(judgeable: Judgeable) -> Option<Units>
+    ensures { result ≡ capacity_found judgeable.component }
 {
-    let mut steps = Steps::new(component.table.tasks());
+    let mut steps = Steps::new(judgeable.component.table.tasks());
     let mut capacity = Units(0);
-    // The rules name this form: the walk leaves at the instant that decides, with the capacity as its value. No index is counted.
+    // docs/DECISIONS ("Named forms") fixes this form: the walk leaves at the instant that decides, with the capacity as its value. No index is counted.
     let found = 'instants: loop {
-        if length.0 < steps.at {
+        if judgeable.length.0 < steps.at {
             break 'instants Some(capacity);
         }
         let step = steps.pass();
-        let Some(enough) = raised(interface_at(component, capacity), step) else {
+        let Some(enough) = raised(interface_at(judgeable.component, capacity), step) else {
             break 'instants None;
         };
         capacity = enough;
@@ -74,5 +74,5 @@ pub fn smallest_capacity(component: Component) -> Result<Option<Units>, Refusal>
     ensures { smallest_in result ≡ capacity_answer component }
 {
     let length = common_period(component)?;
-    Ok(least_capacity(component, length))
+    Ok(least_capacity(Judgeable { component, length }))
 }

@@ -6,6 +6,7 @@ ghost use Rattle.judge.specs.Capacity.{capacity_answer, smallest_in};
 
 use crate::answer::Judgement;
 use crate::capacity::least_capacity;
+use crate::judgeable::Judgeable;
 use crate::judging::judge_over;
 use budget::known::{Known, common_period};
 use budget::quantity::Units;
@@ -15,12 +16,18 @@ pub fn judge(known: Known) -> Result<Judgement, Refusal>
     ensures { answer_in result ≡ judge_answer known.component }
 {
     let length = common_period(known)?;
-    Ok(judge_over(known.component, length))
+    Ok(judge_over(Judgeable {
+        component: known.component,
+        length,
+    }))
 }
 
 pub fn smallest_capacity(known: Known) -> Result<Option<Units>, Refusal>
     ensures { smallest_in result ≡ capacity_answer known.component }
 {
     let length = common_period(known)?;
-    Ok(least_capacity(known.component, length))
+    Ok(least_capacity(Judgeable {
+        component: known.component,
+        length,
+    }))
 }

@@ -3,6 +3,7 @@
 
 pub mod answer;
 pub mod capacity;
+mod judgeable;
 pub mod judging;
 pub mod known;
 mod margin;

@@ -31,9 +31,10 @@ fn try_instant(found: Scanned, interface: Interface, step: Step) -> Scanned
         return found;
     }
     let units = units_at(interface, at);
+    let here = Tight { at, units, demand };
     Scanned {
-        short: sooner_short(found.short, at, units, demand),
-        tight: Some(tighter(found.tight, Tight { at, units, demand })),
+        short: sooner_short(found.short, here),
+        tight: Some(tighter(found.tight, here)),
     }
 }
 

@@ -1,5 +1,5 @@
-// A signed margin as the numbers that a reply and a line hold: its sign, its magnitude, its 32 bits (RULES 14, 15). Each is a method of std under the rules'
-// word, with what the rules say of it as its contract.
+// A signed margin as the numbers that tell it without a sign: whether it is negative, its magnitude, and its 32 bits in two's complement, which a reply
+// holds (RULES 14). docs/CLAIMS names all three, so those that no call needs stay too.
 ghost use Rattle.std.specs.Prelude.{◌≡◌, nat_abs};
 ghost use Rattle.judge.specs.Signed.{is_negative, signed_bits};
 

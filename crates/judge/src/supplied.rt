@@ -7,7 +7,7 @@ use budget::interface::Interface;
 use budget::quantity::Time;
 use budget::supply::supply;
 
-// The units of the interface by this instant.
+// The units of the interface by this instant. budget's own `units_by` stays private: to be public it would have to ask for what this function asks.
 pub(crate) fn units_at(interface: Interface, at: u32) -> u32
     requires { Supplied interface at }
     ensures { result ≡ Supply.supply interface at }

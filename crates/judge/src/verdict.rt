@@ -3,15 +3,16 @@ ghost use Rattle.std.specs.Prelude.{◌≡◌};
 ghost use Rattle.judge.specs.inner.Tried.{sooner_short, verdict_from};
 
 use crate::answer::Verdict;
+use crate::margin::Tight;
 use budget::quantity::Time;
 
 // The first short instant once this later instant has been tried too; the first one found stays.
 #[tactic(auto, unfolding(crate::specs::inner::Tried::sooner_short))]
-pub(crate) fn sooner_short(short: Option<Time>, at: u32, units: u32, demand: u32) -> Option<Time>
-    ensures { result ≡ sooner_short short at units demand }
+pub(crate) fn sooner_short(short: Option<Time>, here: Tight) -> Option<Time>
+    ensures { result ≡ sooner_short short here.at here.units here.demand }
 {
-    if units < demand {
-        return short.or(Some(Time(at)));
+    if here.units < here.demand {
+        return short.or(Some(Time(here.at)));
     }
     short
 }
@@ -21,8 +22,5 @@ pub(crate) fn sooner_short(short: Option<Time>, at: u32, units: u32, demand: u32
 pub(crate) fn verdict_from(short: Option<Time>) -> Verdict
     ensures { result ≡ verdict_from short }
 {
-    match short {
-        Some(at) => Verdict::Short(at),
-        None => Verdict::Accepted,
-    }
+    short.map_or(Verdict::Accepted, Verdict::Short)
 }

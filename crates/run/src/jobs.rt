@@ -12,13 +12,21 @@ use budget::task::Task;
 // The most jobs that a walk takes.
 pub const MOST: usize = 1_024;
 
-// The jobs of a run, as the columns of their tasks' numbers, their releases, their readiness slots and their works.
+// The jobs of a run, as the columns of their tasks' numbers, their releases, their readiness slots and their works. RULES 9 gives them as four rows; rows
+// of unequal lengths are refused with 12, so that one length is an invariant of `Aligned` and not of this.
 #[derive(Clone, Copy)]
 pub struct Jobs<'a> {
     pub tasks: &'a [u32],
     pub releases: &'a [i32],
     pub ready: &'a [u32],
     pub works: &'a [u32],
+}
+
+// Jobs whose columns are of one length, so that each place has a job.
+#[derive(Clone, Copy)]
+pub(crate) struct Aligned<'a> {
+    pub jobs: Jobs<'a>,
+    pub ghost even: { OneLength jobs },
 }
 
 // One job; its release may lie before slot 0.
@@ -63,7 +71,7 @@ impl Job {
             || i64::from(self.release) + i64::from(period) <= i64::from(later.release)
     }
 
-    // Whether it goes before a later job, the period of its task between their releases if that is of its task too.
+    // Whether a later job is sorted behind it and, if it is of the same task, keeps its distance.
     fn is_before(self, later: Job, period: u32) -> bool
         ensures { result ≡ (in_order (job_in self) (job_in later) && (not (eqb self.task later.task) || le_z (self.release +ℤ pos period) later.release)) }
     {
@@ -80,49 +88,6 @@ impl Job {
 }
 
 impl Jobs<'_> {
-    // The job at place i.
-    fn at(&self, i: usize) -> Job
-        requires { OneLength self.now × (i < length self.now.tasks.now) }
-        ensures { get_or (jobs_in self.now) i no_job ≡ job_in result }
-    {
-        Job {
-            task: self.tasks[i],
-            release: self.releases[i],
-            ready: self.ready[i],
-            work: self.works[i],
-        }
-    }
-
-    // Whether the job at place i, of a task with that period, and every job after it are in order and apart.
-    fn is_before_rest(&self, i: usize, period: u32) -> bool
-        requires { OneLength self.now × (i < length self.now.tasks.now) }
-        ensures { (ks : List Task) → T (task_of ks (get_or (jobs_in self.now) i no_job)) ≡ period → result ≡ before_all ks (get_or (jobs_in self.now) i no_job) (drop (suc i) (jobs_in self.now)) }
-    {
-        let job = self.at(i);
-        (i + 1..self.tasks.len()).all(|k| job.is_before(self.at(k), period))
-    }
-
-    // Whether the job at place i keeps the rules: its task is there, its work is 1 to C, it is ready in time, and the jobs after it are in order
-    // and apart.
-    fn is_legal_at(&self, table: &[Task], i: usize) -> bool
-        requires { OneLength self.now × (i < length self.now.tasks.now) }
-        ensures { result ≡ (valid_job table.now (get_or (jobs_in self.now) i no_job) && before_all table.now (get_or (jobs_in self.now) i no_job) (drop (suc i) (jobs_in self.now))) }
-    {
-        let job = self.at(i);
-        match table.get(job.task as usize) {
-            Some(task) => job.is_within(task) && self.is_before_rest(i, task.period.0),
-            None => false,
-        }
-    }
-
-    // Whether the jobs are a legal arrival.
-    fn is_legal(&self, table: &[Task]) -> bool
-        requires { OneLength self.now }
-        ensures { result ≡ legal_arrival table.now (jobs_in self.now) }
-    {
-        (0..self.tasks.len()).all(|i| self.is_legal_at(table, i))
-    }
-
     // Whether each job is released before the trace ends.
     fn is_released_before(&self, end: usize) -> bool
         ensures { result ≡ released_before end self.now.releases.now }
@@ -143,14 +108,61 @@ impl Jobs<'_> {
             && self.works.len() == count
             && count <= MOST
             && self.is_released_before(end)
-            && self.is_legal(table)
+            && Aligned { jobs: *self }.is_legal(table)
+    }
+}
+
+impl Aligned<'_> {
+    // The job at place i.
+    fn at(&self, i: usize) -> Job
+        requires { i < length self.now.jobs.tasks.now }
+        ensures { get_or (jobs_in self.now.jobs) i no_job ≡ job_in result }
+    {
+        Job {
+            task: self.jobs.tasks[i],
+            release: self.jobs.releases[i],
+            ready: self.jobs.ready[i],
+            work: self.jobs.works[i],
+        }
+    }
+
+    // Whether the job at place i, of a task with that period, and every job after it are in order and apart.
+    fn is_before_rest(&self, i: usize, period: u32) -> bool
+        requires { i < length self.now.jobs.tasks.now }
+        ensures { (ks : List Task) → T (task_of ks (get_or (jobs_in self.now.jobs) i no_job)) ≡ period → result ≡ before_all ks (get_or (jobs_in self.now.jobs) i no_job) (drop (suc i) (jobs_in self.now.jobs)) }
+    {
+        let job = self.at(i);
+        // By place, since a job is four columns' numbers there.
+        (i + 1..self.jobs.tasks.len()).all(|k| job.is_before(self.at(k), period))
+    }
+
+    // Whether the job at place i keeps the rules: its task is there, its work is 1 to C, it is ready in time, and the jobs after it are in order
+    // and apart.
+    fn is_legal_at(&self, table: &[Task], i: usize) -> bool
+        requires { i < length self.now.jobs.tasks.now }
+        ensures { result ≡ (valid_job table.now (get_or (jobs_in self.now.jobs) i no_job) && before_all table.now (get_or (jobs_in self.now.jobs) i no_job) (drop (suc i) (jobs_in self.now.jobs))) }
+    {
+        let job = self.at(i);
+        match table.get(job.task as usize) {
+            Some(task) => job.is_within(task) && self.is_before_rest(i, task.period.0),
+            None => false,
+        }
+    }
+
+    // Whether the jobs are a legal arrival.
+    fn is_legal(&self, table: &[Task]) -> bool
+        ensures { result ≡ legal_arrival table.now (jobs_in self.now.jobs) }
+    {
+        // By place, since a job is four columns' numbers there.
+        (0..self.jobs.tasks.len()).all(|i| self.is_legal_at(table, i))
     }
 
     // The deadline of each job.
     pub(crate) fn deadlines(&self, table: &[Task], due: &mut [u32])
-        requires { OneLength self.now × (length due.old ≡ length self.now.tasks.now) × ((k : ℕ) → k < length self.now.tasks.now → Timely table.now (get_or (jobs_in self.now) k no_job)) }
-        ensures { due.new ≡ map (deadline table.now) (jobs_in self.now) }
+        requires { (length due.old ≡ length self.now.jobs.tasks.now) × ((k : ℕ) → k < length self.now.jobs.tasks.now → Timely table.now (get_or (jobs_in self.now.jobs) k no_job)) }
+        ensures { due.new ≡ map (deadline table.now) (jobs_in self.now.jobs) }
     {
+        // The place goes along, since a job is four columns' numbers there.
         for (i, due) in due.iter_mut().enumerate() {
             let job = self.at(i);
             *due = job.deadline(table[job.task as usize].deadline.0);

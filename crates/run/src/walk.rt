@@ -7,7 +7,7 @@ ghost use Rattle.run.specs.Run.{left_at};
 ghost use Rattle.run.specs.Walk.{late_task, miss_of, stop, walked_to, walk_refusal, walk_answer, left_after};
 ghost use Rattle.run.specs.Walked.{miss_in, walked_in};
 
-use crate::jobs::{Jobs, MOST};
+use crate::jobs::{Aligned, Jobs, MOST};
 use crate::scan::{Given, Timed};
 use budget::quantity::{Time, Units};
 use budget::refusal::Refusal;
@@ -33,7 +33,7 @@ pub struct Walked {
 #[tactic(auto, unfolding(crate::specs::Walk::miss_of))]
 fn miss_at(timed: &Timed, left: &[u32], t: u32) -> Option<Miss>
     requires { length left.now ≡ length timed.now.due.now }
-    ensures { (ks : List Task) → Deadlines ks (jobs_in timed.now.jobs) timed.now.due.now → miss_in result ≡ miss_of t (late_task ks t (jobs_in timed.now.jobs) left.now) }
+    ensures { (ks : List Task) → Deadlines ks (jobs_in timed.now.aligned.jobs) timed.now.due.now → miss_in result ≡ miss_of t (late_task ks t (jobs_in timed.now.aligned.jobs) left.now) }
 {
     timed
         .late_task(left, t)
@@ -43,7 +43,7 @@ fn miss_at(timed: &Timed, left: &[u32], t: u32) -> Option<Miss>
 // The walk over the slots. The work left is each job's whole work at first, and its work left at the stop at last.
 fn walk_slots(timed: &Timed, trace: &[u8], left: &mut [u32]) -> Walked
     requires { (length left.old ≡ length timed.now.due.now) × (length trace.now ≤ 65536) }
-    ensures { (ks : List Task) → let js = jobs_in timed.now.jobs in Deadlines ks js timed.now.due.now → Works js left.old → (walked_in (Ok result) ≡ walked_to ks js trace.now (stop ks js trace.now)) × (left.new ≡ left_at ks js trace.now (stop ks js trace.now)) }
+    ensures { (ks : List Task) → let js = jobs_in timed.now.aligned.jobs in Deadlines ks js timed.now.due.now → Works js left.old → (walked_in (Ok result) ≡ walked_to ks js trace.now (stop ks js trace.now)) × (left.new ≡ left_at ks js trace.now (stop ks js trace.now)) }
 {
     let mut served = 0;
     let mut idle = 0;
@@ -75,11 +75,12 @@ fn walk_accepted(table: &Table, jobs: &Jobs, trace: &[u8], left: &mut [u32]) -> 
     ensures value { walked_in (Ok result) ≡ walk_answer table.now jobs.now.tasks.now jobs.now.releases.now jobs.now.ready.now jobs.now.works.now trace.now (length left.old) }
     ensures leaves { left.new ≡ left_after table.now jobs.now.tasks.now jobs.now.releases.now jobs.now.ready.now jobs.now.works.now trace.now left.old }
 {
+    let aligned = Aligned { jobs: *jobs };
     let mut room = [0u32; MOST];
     let due = &mut room[..jobs.tasks.len()];
-    jobs.deadlines(table.tasks(), due);
+    aligned.deadlines(table.tasks(), due);
     left.copy_from_slice(jobs.works);
-    walk_slots(&Timed { jobs: *jobs, due }, trace, left)
+    walk_slots(&Timed { aligned, due }, trace, left)
 }
 
 // The refusal of a walk: the table's, then that of the jobs, of the trace, and of the room for the work left.

@@ -19,7 +19,7 @@ pub fn zeros_and_ones(trace: &[u8]) -> bool
     trace.iter().all(|&byte| byte <= 1)
 }
 
-// The refusal of an interface, an offset and a trace.
+// The refusal of an interface, an offset and a trace: the trace question's own three arguments (RULES 11), which go together to the walk.
 #[tactic(auto, unfolding(crate::specs::Answer::trace_refusal))]
 fn check_trace(interface: Interface, offset: u32, trace: &[u8]) -> Result<(), Refusal>
     ensures { number_in result ≡ trace_refusal interface offset trace.now }

@@ -8,8 +8,8 @@ use Rattle.judge.proofs.capacity.least_capacity.Given as goal
 
 abbrev pub invariant-instants : goal.invariant-instants
 invariant-instants l =
-    let ks = tasks_of l.fn.component.table in
-    Carried ks l.steps × Found ks l.fn.component.period.0 l.fn.component.deadline.0 l.length.0 l.steps.at l.capacity.0
+    let ks = tasks_of l.fn.judgeable.component.table in
+    Carried ks l.steps × Found ks l.fn.judgeable.component.period.0 l.fn.judgeable.component.deadline.0 l.judgeable.length.0 l.steps.at l.capacity.0
 
 abbrev pub decreases-instants : goal.decreases-instants
-decreases-instants l = l.length.0 + 1 - l.steps.at
+decreases-instants l = l.judgeable.length.0 + 1 - l.steps.at

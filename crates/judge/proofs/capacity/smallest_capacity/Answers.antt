@@ -11,8 +11,8 @@ returns-in_err-length c =
     let p = err_from_is_err_and c.from_residual.result c.from_residual.ensures.1 in
     rw (p.1, p.2) (refused_capacity _ _ (refused _ _ c.in_err-length.ensures) (some c.in_err-length.field-0.0))
 
-pub least_capacity-requires : goal.least_capacity-requires
-least_capacity-requires c = whole _ _ c.in_ok-length.ensures refl
+pub invariant_of-least_capacity : goal.invariant_of-least_capacity
+invariant_of-least_capacity c = record { whole = whole _ _ c.in_ok-length.ensures refl }
 
 pub returns : goal.returns
 returns c = given_capacity _ _ (whole _ _ c.in_ok-length.ensures refl).passes c.least_capacity.ensures

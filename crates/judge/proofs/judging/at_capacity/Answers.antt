@@ -7,17 +7,17 @@ use Rattle.judge.proofs.Whole.{scannable}
 use Rattle.judge.proofs.judging.at_capacity.Goals as goal
 
 pub scan-found-requires : goal.scan-found-requires
-scan-found-requires c = rw (c.tasks.ensures, c.interface_at-interface.ensures) (scannable _ _ c.requires.whole _ c.requires.fits)
+scan-found-requires c = rw (c.tasks.ensures, c.interface_at-interface.ensures) (scannable _ _ c.args.judgeable.whole _ c.requires)
 
 pub margin_from-requires : goal.margin_from-requires
 margin_from-requires c =
-    let s = scannable _ _ c.requires.whole _ c.requires.fits in
-    tight_small _ _ _ _ s (c.scan-found.ensures.tight ∙ ap₂ (λ ks i. tight_on ks i c.args.length.0) c.tasks.ensures c.interface_at-interface.ensures)
+    let s = scannable _ _ c.args.judgeable.whole _ c.requires in
+    tight_small _ _ _ _ s (c.scan-found.ensures.tight ∙ ap₂ (λ ks i. tight_on ks i c.args.judgeable.length.0) c.tasks.ensures c.interface_at-interface.ensures)
 
 pub returns : goal.returns
 returns c =
-    scanned_answer _ _ _ _ _ _ _ c.requires.whole.is
-    (c.scan-found.ensures.short ∙ ap₂ (λ ks i. short_on ks i c.args.length.0) c.tasks.ensures c.interface_at-interface.ensures)
-    (c.scan-found.ensures.tight ∙ ap₂ (λ ks i. tight_on ks i c.args.length.0) c.tasks.ensures c.interface_at-interface.ensures)
+    scanned_answer _ _ _ _ _ _ _ c.args.judgeable.whole.is
+    (c.scan-found.ensures.short ∙ ap₂ (λ ks i. short_on ks i c.args.judgeable.length.0) c.tasks.ensures c.interface_at-interface.ensures)
+    (c.scan-found.ensures.tight ∙ ap₂ (λ ks i. tight_on ks i c.args.judgeable.length.0) c.tasks.ensures c.interface_at-interface.ensures)
     c.verdict_from.ensures
     c.margin_from.ensures

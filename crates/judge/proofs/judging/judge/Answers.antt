@@ -11,5 +11,5 @@ returns-in_err-length c =
     let p = err_from_is_err_and c.from_residual.result c.from_residual.ensures.1 in
     rw (p.1, p.2) (refused_answer _ _ (refused _ _ c.in_err-length.ensures) (some c.in_err-length.field-0.0))
 
-pub judge_over-requires : goal.judge_over-requires
-judge_over-requires c = whole _ _ c.in_ok-length.ensures refl
+pub invariant_of-judge_over : goal.invariant_of-judge_over
+invariant_of-judge_over c = record { whole = whole _ _ c.in_ok-length.ensures refl }

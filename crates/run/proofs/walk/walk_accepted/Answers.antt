@@ -25,11 +25,13 @@ slice_bounds-room-end c = (kept (goal.at.slice_bounds-room-end c).Start).few
 pub slice_bounds-due-end : goal.slice_bounds-due-end
 slice_bounds-due-end c = sym (length-take-le _ _ (kept (goal.at.slice_bounds-due-end c).Start).few)
 
+pub invariant_of-aligned : goal.invariant_of-aligned
+invariant_of-aligned c = record { even = even (goal.at.invariant_of-aligned c).Start }
+
 pub deadlines-requires : goal.deadlines-requires
 deadlines-requires c =
     let s = (goal.at.deadlines-requires c).Start in
     let j = c.args.jobs.now in (
-      even s,
       length-take-le _ _ (kept s).few,
       rw c.tasks.ensures (job_fine c.args.table.now j.tasks.now j.releases.now j.ready.now j.works.now c.args.trace.now _ (kept s)),
     )
@@ -44,7 +46,6 @@ invariant_of-walk_slots c =
     let s = (goal.at.invariant_of-walk_slots c).Start in
     let j = c.args.jobs.now in
     record {
-      even = even s;
       long = c.deadlines.auto.due ∙ length-take-le _ _ (kept s).few;
       numbered = λ k h.
           rw (ap (λ (j : Job). j.task) (at j (even s) k h))

@@ -15,12 +15,12 @@ use Rattle.run.proofs.walk.walk_slots.Goals.{in-Nothing, in-Served, in-Idle, Joi
 pub loop-t-init : goal.loop-t-init
 loop-t-init c =
     let s = c.args.timed.now in
-    (search rules, search rules, λ ks dues works. begin ks (jobs_in s.jobs) c.args.trace.now c.args.left.now works)
+    (search rules, search rules, λ ks dues works. begin ks (jobs_in s.aligned.jobs) c.args.trace.now c.args.left.now works)
 
 pub returns-then-is_some : goal.returns-then-is_some
 returns-then-is_some c =
     λ ks dues works.
-    let js = jobs_in c.args.timed.now.jobs in
+    let js = jobs_in c.args.timed.now.aligned.jobs in
     let w = c.loop-t.invariant.2 ks dues works in
     let told = c.miss_at-miss.ensures ks dues in
     let late = late_if_told _ _ _ told ∙ sym c.is_some.ensures ∙ c.if-is_some.true in
@@ -57,7 +57,7 @@ loop-t-preserved c =
       search rules,
       omega (arith, one_given c.serve.result),
       λ ks dues works.
-          let js = jobs_in c.args.timed.now.jobs in
+          let js = jobs_in c.args.timed.now.aligned.jobs in
           let fine = late_if_told _ _ _ (c.miss_at-miss.ensures ks dues) ∙ sym c.is_some.ensures ∙ c.if-is_some.false in
           rw (served, idle)
           (step ks js c.args.trace.now c.loop-t.t c.loop-t.left c.loop-t.served c.loop-t.idle (c.loop-t.invariant.2 ks dues works)
@@ -67,7 +67,7 @@ loop-t-preserved c =
 pub returns : goal.returns
 returns c =
     λ ks dues works.
-    let js = jobs_in c.args.timed.now.jobs in
+    let js = jobs_in c.args.timed.now.aligned.jobs in
     let end = le_antisymm c.loop-t.auto.t-end c.loop-t-test.false in
     let w = rw end at (c.loop-t.invariant.2 ks dues works) in
     answers ks js c.args.trace.now _ c.loop-t.left c.loop-t.served c.loop-t.idle w

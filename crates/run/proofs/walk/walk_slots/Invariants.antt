@@ -11,5 +11,5 @@ use Rattle.run.proofs.walk.walk_slots.Given as goal
 abbrev pub invariant-loop-t : goal.invariant-loop-t
 invariant-loop-t l = (length l.left ≡ length l.initial.left)
     × (l.served + l.idle ≤ l.t)
-    × ((ks : List Task) → Deadlines ks (jobs_in l.timed.jobs) l.timed.due.now → Works (jobs_in l.timed.jobs) l.initial.left
-    → Walking ks (jobs_in l.timed.jobs) l.trace l.t l.left l.served l.idle)
+    × ((ks : List Task) → Deadlines ks (jobs_in l.timed.aligned.jobs) l.timed.due.now → Works (jobs_in l.timed.aligned.jobs) l.initial.left
+    → Walking ks (jobs_in l.timed.aligned.jobs) l.trace l.t l.left l.served l.idle)

@@ -39,13 +39,13 @@ returns-clause-value c =
     let left = c.args.left.now in
     let least =
     reduce_from_yields_List _ _ _ c.min.ensures.ran
-    (YieldsList-from_map _ (key s.due.now s.jobs.tasks.now)
+    (YieldsList-from_map _ (key s.due.now s.aligned.jobs.tasks.now)
     (YieldsList-at c.map.ensures.source
-    (YieldsList-from_filter _ (waits_at s.jobs.ready.now left c.args.n) (YieldsList-from_range 0 (length left) _ c.filter.ensures.source (omega arith))
+    (YieldsList-from_filter _ (waits_at s.aligned.jobs.ready.now left c.args.n) (YieldsList-from_range 0 (length left) _ c.filter.ensures.source (omega arith))
     c.filter.ensures.closure (λ x b q k. search (rules, tests))))
     c.map.ensures.closure (λ x b q k. search rules))
-    ∙ reduced (goes_at s.due.now s.jobs.tasks.now) (waits_at s.jobs.ready.now left c.args.n) (key s.due.now s.jobs.tasks.now) _
-    (λ i k h. kept s.due.now s.jobs.tasks.now i k h) 0 (length left) in
+    ∙ reduced (goes_at s.due.now s.aligned.jobs.tasks.now) (waits_at s.aligned.jobs.ready.now left c.args.n) (key s.due.now s.aligned.jobs.tasks.now) _
+    (λ i k h. kept s.due.now s.aligned.jobs.tasks.now i k h) 0 (length left) in
     let place : unwrap_or c.map-2.result (length left) ≡ unwrap_or (option_map (λ (t : ℕ × ℕ × ℕ). t.2) c.min.result) (length left) = search (rules, tests) in
-    place ∙ rw least (placed s.due.now s.jobs.tasks.now (first_waiting s.due.now s.jobs.tasks.now s.jobs.ready.now left c.args.n) (length left))
-    ∙ next_first ks s.jobs s.even s.due.now left dues (omega (arith, s.long, c.requires)) c.args.n
+    place ∙ rw least (placed s.due.now s.aligned.jobs.tasks.now (first_waiting s.due.now s.aligned.jobs.tasks.now s.aligned.jobs.ready.now left c.args.n) (length left))
+    ∙ next_first ks s.aligned.jobs s.aligned.even s.due.now left dues (omega (arith, s.long, c.requires)) c.args.n

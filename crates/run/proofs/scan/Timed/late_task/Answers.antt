@@ -21,9 +21,9 @@ returns-clause-value c =
     ap (λ (o : Option ℕ). unwrap_or o most_tasks)
     (sym (option_map_id c.min.result)
     ∙ min_from_yields_List _ _ c.min.ensures.ran
-    (YieldsList-from_map _ (λ i. get_or s.jobs.tasks.now i 0)
+    (YieldsList-from_map _ (λ i. get_or s.aligned.jobs.tasks.now i 0)
     (YieldsList-at c.map.ensures.source
     (YieldsList-from_filter _ (late_at s.due.now left c.args.t) (YieldsList-from_range 0 (length left) _ c.filter.ensures.source refl)
     c.filter.ensures.closure (λ x b q k. search (rules, tests))))
     c.map.ensures.closure (λ x b q k. search rules)))
-    ∙ late_least ks s.jobs s.even s.due.now left dues (omega (arith, s.long, c.requires)) s.numbered c.args.t 0 (length left - 0) (omega arith)
+    ∙ late_least ks s.aligned.jobs s.aligned.even s.due.now left dues (omega (arith, s.long, c.requires)) s.numbered c.args.t 0 (length left - 0) (omega arith)

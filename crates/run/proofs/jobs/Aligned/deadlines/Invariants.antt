@@ -4,8 +4,8 @@ use mathlib.Core.Path.{◌≡◌}
 use lib.ListN.{length, get_or}
 use Rattle.run.specs.inner.Columns.{jobs_in}
 use Rattle.run.specs.Job.{deadline, no_job}
-use Rattle.run.proofs.jobs.Jobs.deadlines.Given as goal
+use Rattle.run.proofs.jobs.Aligned.deadlines.Given as goal
 
 abbrev pub invariant-loop-i : goal.invariant-loop-i
 invariant-loop-i l =
-    (length l.due ≡ length l.self.tasks.now) × ((k : ℕ) → k < l.i → get_or l.due k 0 ≡ deadline l.table (get_or (jobs_in l.self) k no_job))
+    (length l.due ≡ length l.self.jobs.tasks.now) × ((k : ℕ) → k < l.i → get_or l.due k 0 ≡ deadline l.table (get_or (jobs_in l.self.jobs) k no_job))

@@ -9,15 +9,15 @@ use Rattle.std.proofs.lemmas.Iterator.Search.{all_from_yields_List}
 use Rattle.run.specs.inner.Columns.{job_in, jobs_in}
 use Rattle.run.proofs.JobRules.{follows, before_each}
 use Rattle.run.proofs.Rows.{count}
-use Rattle.run.proofs.jobs.Jobs.is_before_rest.Goals as goal
+use Rattle.run.proofs.jobs.Aligned.is_before_rest.Goals as goal
 
 pub returns : goal.returns
 returns c =
     λ ks.
     rw c.at-job.ensures
     (λ e.
-    let js = jobs_in c.args.self.now in
+    let js = jobs_in c.args.self.now.jobs in
     let a = job_in c.at-job.result in
     rw (← (add-one c.args.i))
     (all_from_yields_List (follows ks js a) _ _ _ c.all.ensures.ran (YieldsList-from_range _ _ _ refl refl) (λ x b q k. rw e (search (rules, tests)))
-    ∙ before_each ks js a _ _ (omega (arith, count c.args.self.now c.requires.0))))
+    ∙ before_each ks js a _ _ (omega (arith, count c.args.self.now.jobs c.args.self.now.even))))

@@ -5,11 +5,11 @@ use borrow.Author.Tests.{lt-ltb, le-ltb}
 use Rattle.budget.specs.Task.{T, no_task}
 use Rattle.run.specs.inner.Columns.{jobs_in}
 use Rattle.run.specs.Job.{valid_job, ready_in_time, task_of, no_job}
-use Rattle.run.proofs.jobs.Jobs.is_legal_at.Goals as goal
-use Rattle.run.proofs.jobs.Jobs.is_legal_at.Goals.{After-is_within}
+use Rattle.run.proofs.jobs.Aligned.is_legal_at.Goals as goal
+use Rattle.run.proofs.jobs.Aligned.is_legal_at.Goals.{After-is_within}
 
 -- the job's own rules, as the code tests them
-valid : (c : After-is_within) → valid_job c.args.table.now (get_or (jobs_in c.args.self.now) c.args.i no_job) ≡ c.is_within.result
+valid : (c : After-is_within) → valid_job c.args.table.now (get_or (jobs_in c.args.self.now.jobs) c.args.i no_job) ≡ c.is_within.result
 unfolding valid_job ready_in_time task_of
 valid c =
     let h = c.in-Some.ensures.lookup.3 in

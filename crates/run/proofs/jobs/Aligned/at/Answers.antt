@@ -3,9 +3,10 @@ use Rattle.run.proofs.Rows.{at}
 use Rattle.run.proofs.Shifted.{read}
 use Rattle.std.proofs.Common.{get_or, pos}
 use native.Mathlib.Omega.{arith}
-use Rattle.run.proofs.jobs.Jobs.at.Goals as goal
+use Rattle.run.proofs.jobs.Aligned.at.Goals as goal
 
 pub returns : goal.returns
 returns c =
-    let jobs = c.args.self.now in
-    rw (read (get_or jobs.releases.now c.args.i (pos 0)) (omega arith)) (at jobs c.requires.0 c.args.i c.requires.1)
+    let aligned = c.args.self.now in
+    let jobs = aligned.jobs in
+    rw (read (get_or jobs.releases.now c.args.i (pos 0)) (omega arith)) (at jobs aligned.even c.args.i c.requires)

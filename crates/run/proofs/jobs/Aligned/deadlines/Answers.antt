@@ -6,12 +6,12 @@ use Rattle.std.proofs.Math.Seq.{ext_get_or}
 use Rattle.run.specs.inner.Columns.{Timely, job_in, jobs_in}
 use Rattle.run.specs.Job.{deadline, task_of, no_job}
 use Rattle.run.proofs.Rows.{count}
-use Rattle.run.proofs.jobs.Jobs.deadlines.Goals as goal
-use Rattle.run.proofs.jobs.Jobs.deadlines.Goals.{After-at-job, After-deadline}
+use Rattle.run.proofs.jobs.Aligned.deadlines.Goals as goal
+use Rattle.run.proofs.jobs.Aligned.deadlines.Goals.{After-at-job, After-deadline}
 
 -- the job at the loop's place
 fine : (c : After-at-job) → Timely c.args.table.now (job_in c.at-job.result)
-fine c = rw c.at-job.ensures at (c.requires.2 c.loop-i.i (omega (arith, c.requires.1)))
+fine c = rw c.at-job.ensures at (c.requires.1 c.loop-i.i (omega (arith, c.requires.0)))
 
 pub bounds-table-job : goal.bounds-table-job
 bounds-table-job c = (fine (goal.at.bounds-table-job c).After-at-job).there
@@ -23,7 +23,7 @@ deadline-requires c =
     (f.behind, f.fits)
 
 -- what is stored is the deadline of the job at the loop's place
-stored : (c : After-deadline) → c.deadline.result ≡ deadline c.args.table.now (get_or (jobs_in c.args.self.now) c.loop-i.i no_job)
+stored : (c : After-deadline) → c.deadline.result ≡ deadline c.args.table.now (get_or (jobs_in c.args.self.now.jobs) c.loop-i.i no_job)
 unfolding deadline task_of
 stored c = rw c.at-job.ensures c.deadline.ensures
 
@@ -38,7 +38,7 @@ loop-i-preserved c =
 
 pub returns : goal.returns
 returns c =
-    let js = jobs_in c.args.self.now in
-    let long = count c.args.self.now c.requires.0 in
-    ext_get_or 0 c.loop-i.due _ (omega (arith, length-map js (deadline c.args.table.now), c.requires.1))
-    (λ k h. c.loop-i.invariant.1 k (omega (arith, c.requires.1)) ∙ sym (get_or-map (deadline c.args.table.now) js k no_job 0 (omega (arith, c.requires.1))))
+    let js = jobs_in c.args.self.now.jobs in
+    let long = count c.args.self.now.jobs c.args.self.now.even in
+    ext_get_or 0 c.loop-i.due _ (omega (arith, length-map js (deadline c.args.table.now), c.requires.0))
+    (λ k h. c.loop-i.invariant.1 k (omega (arith, c.requires.0)) ∙ sym (get_or-map (deadline c.args.table.now) js k no_job 0 (omega (arith, c.requires.0))))
