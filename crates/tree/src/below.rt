@@ -75,6 +75,7 @@ fn offers_below(pass: Pass<'_>, wanted: &Wanted, place: usize) -> [Offer; 256]
 {
     let mut offers = [Offer::NONE; 256];
     for k in 0..place {
+        // Those from k on are not noted yet.
         let offer = offer_at(pass, k, wanted, &offers[..k]);
         offers[k] = offer;
     }
