@@ -39,6 +39,7 @@ pub(crate) fn put_all(sheet: &[u8], contents: &Contents, entries: &mut [u8])
     requires room { 36 * contents.now.count ≤ length entries.old }
     ensures { entries.new ≡ sets entries.old 0 (entries_to sheet.now contents.now.count) }
 {
+    // The listing's pass and that of one place are set up alike: a public function for it would have to ask that the last edge lies in the sheet, and none asks.
     let count = contents.count;
     let pairs = read_pairs(&sheet[contents.edges[count]..]);
     let pass = Pass {
@@ -49,6 +50,7 @@ pub(crate) fn put_all(sheet: &[u8], contents: &Contents, entries: &mut [u8])
     let mut offers = [Offer::NONE; 256];
     for place in 0..count {
         let placed = turn_at(pass, place, &mut offers);
+        // Where an entry stands in the caller's buffer is fixed (RULES 14).
         let entry = &mut entries[36 * place..36 * place + 36];
         put_entry(placed, contents.edges[place], entry);
     }

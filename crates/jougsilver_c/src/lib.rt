@@ -1,6 +1,6 @@
 // The calls of the host, a C program, as it links them: each is the call of `jougsilver` of that name and says the same. They stand in a crate of their own
 // since an archive for C is no library for other crates. C sees each slice as two arguments, where it begins and how many bytes it has.
-// Their numbers and the three of them alike are the C interface.
+// That they answer numbers is the C interface, and each stands here by itself, since C links it by its name.
 #![tactic(auto)]
 
 ghost use Rattle.std.specs.Prelude.{◌≡◌, length};

@@ -4,14 +4,14 @@ ghost use Rattle.std.specs.Prelude.{◌≡◌, ◌+◌, ◌≤◌, ◌<◌, [], 
 use itoa::{Buffer, Integer};
 use std::marker::Model;
 
-// The longest line has its newline within 64 bytes.
+// A line so far: its bytes in fixed memory, and how many they are; contracts see the one list that the Model gives. The longest line has its newline within 64
+// bytes.
 #[derive(Drop)]
 pub(crate) struct Line {
     bytes: [u8; 64],
     count: usize,
 }
 
-// A line is seen as the bytes that it holds.
 impl Model for Line {
     ghost use Rattle.std.specs.Prelude.{List, ℕ, ◌≤◌, take};
 

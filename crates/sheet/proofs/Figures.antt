@@ -1,4 +1,4 @@
--- Figures of the sheet, computed: no bytes are refused at 0, an end record alone is a sheet without components, a small sheet of each kind of record with its edges, pairs that are refused where they stand, and a J that is stated (docs/RULES.md, 10, 13 and 16).
+-- Figures of the sheet, computed: no bytes are refused at 0, an end record alone is a sheet without components, a small sheet of each kind of record with its edges, pairs that are refused where they stand, and a J that is stated (RULES 10, 13, 16).
 use Prim.Native.Nat.{ℕ}
 use mathlib.Core.Path.{◌≡◌, refl}
 use mathlib.Core.Bool.{true}

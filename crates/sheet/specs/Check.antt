@@ -1,4 +1,4 @@
--- What a sheet is answered: its count of components, or its refusal and the byte where the refused record began (docs/RULES.md, 10 and 13).
+-- What a sheet is answered: its count of components, or its refusal and the byte where the refused record began (RULES 10, 13).
 use Rattle.std.specs.Prelude.{ℕ, cond, List, [], eqb}
 use Rattle.budget.specs.Refusal as refusal
 use Rattle.record.specs.declared.layout.Pair.{Pair}

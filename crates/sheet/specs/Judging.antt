@@ -1,4 +1,4 @@
--- How the records of components and tasks are judged, each against what was read before it: what may stand where in a sheet (docs/RULES.md, 10)
+-- How the records of components and tasks are judged, each against what was read before it: what may stand where in a sheet (RULES 10)
 -- and which refusal comes first (13). The first record of another kind ends them; Pairs.antt judges it and what follows.
 use Rattle.std.specs.Prelude.{ℕ, ◌+◌, Bool, true, false, cond, ◌&&◌, leb, ltb, eqb}
 use Rattle.budget.specs.declared.task.Task.{Task}

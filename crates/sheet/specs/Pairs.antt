@@ -1,4 +1,4 @@
--- The pairs of a sheet, which stand behind all components and tasks (docs/RULES.md, 10): how each is judged against the components and the pairs
+-- The pairs of a sheet, which stand behind all components and tasks (RULES 10): how each is judged against the components and the pairs
 -- before it, and the end record behind them (13).
 use Rattle.std.specs.Prelude.{ℕ, zero, suc, ◌+◌, ◌-◌, ◌≡◌, Bool, true, false, cond, ◌&&◌, ◌||◌, List, [], ◌∷◌, ◌++◌, length, drop, leb, ltb, eqb}
 use Rattle.budget.specs.Limits.{most_tasks}

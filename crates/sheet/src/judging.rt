@@ -48,7 +48,7 @@ pub fn opened(bytes: usize) -> Result<State, Fault>
     })
 }
 
-// The refusals of a component record; a capacity that is asked is judged as 0.
+// The refusals of a component record; a capacity that is asked is judged as 0. (No `From` makes its interface: both types are of crates below.)
 #[tactic(auto, unfolding(crate::specs::Judging::head_refusal))]
 fn check_head(state: State, head: Head) -> Result<(), Refusal>
     ensures { number_in result ≡ head_refusal (state_in state) head }

@@ -15,7 +15,8 @@ use budget::task::Table;
 use record::layout::{Pair, Record, record_of};
 use record::write::size_of;
 
-// Where the walk stands that goes on: the byte where the next record begins, and the lowest number that the next child may have.
+// Where the walk stands that goes on: the byte where the next record begins, and the lowest number that the next child may have. What is noted of the
+// components goes beside it and not inside: that is lent and changed in place, while a course is answered anew.
 #[derive(Clone, Copy)]
 struct Course {
     pub place: usize,

@@ -41,7 +41,7 @@ pub fn locate(sheet: &[u8], place: usize) -> Result<Located, Fault>
     })
 }
 
-// The refusal of handing back a part, with the byte where a sheet's record began.
+// The count of components of a sheet that has one at that place, or the refusal of handing back its part with the byte where a record began.
 #[tactic(auto, unfolding(crate::specs::Part::located))]
 pub fn check_part(sheet: &[u8], place: usize) -> Result<usize, Fault>
     ensures { checked_in result ≡ part_check sheet.now place }

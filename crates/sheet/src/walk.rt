@@ -10,7 +10,8 @@ use crate::judging::{State, judge, opened};
 use budget::refusal::Refusal;
 use record::layout::record_of;
 
-// What the pairs are judged by of a component: one more than its number, and its tasks, each child so far counted as one.
+// What the pairs are judged by of a component: one more than its number, as the state has it that is noted here, and its tasks, each child so far counted as
+// one.
 #[derive(Clone, Copy)]
 pub(crate) struct Noted {
     pub lowest: u32,
@@ -35,7 +36,8 @@ fn step(sheet: &[u8], state: State) -> Result<Option<State>, Refusal>
     judge(state, record)
 }
 
-// Walks from the first record on to the last task, and notes what each count of components was held with last.
+// Walks from the first record on to the last task, and notes what each count of components was held with last. The pairs have a step and a loop of their own:
+// they change what is noted here, and one loop over both kinds of state would take closures whose contracts say what these functions say.
 pub(crate) fn walk(sheet: &[u8]) -> Result<Walked, Fault>
     ensures { Walks sheet.now result }
 {

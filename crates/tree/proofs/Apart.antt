@@ -4,7 +4,6 @@ use mathlib.Core.Bool.{Bool, true, false}
 use mathlib.Core.Path.{◌≡◌, refl, sym, ap, ap₂}
 use native.Mathlib.Omega.{arith}
 use Rattle.std.specs.Prelude.{Option, Some, None, Ok, Err}
-use Rattle.budget.specs.declared.component.Component.{Component}
 use Rattle.budget.specs.declared.right.Known.{Known}
 use Rattle.budget.proofs.Refusals.{some}
 use Rattle.judge.specs.numbers.Answer.{Answer}
@@ -14,12 +13,11 @@ use Rattle.judge.proofs.Apart.{answers_apart}
 use Rattle.sheet.proofs.Apart.{faults_apart}
 use Rattle.tree.specs.declared.answer.Outcome as code
 use Rattle.tree.specs.declared.answer.Outcome.TheVariants as variant
-use Rattle.tree.specs.declared.answer.Placed as answer
 use Rattle.tree.specs.numbers.Load.{Load}
 use Rattle.tree.specs.numbers.Loaded.{Loaded}
 use Rattle.tree.specs.numbers.Outcome.{Outcome}
 use Rattle.tree.specs.numbers.Placed.{Placed}
-use Rattle.tree.specs.Outcome.{OutcomesApart, outcome_in}
+use Rattle.tree.specs.Outcome.{OutcomesApart}
 use Rattle.tree.specs.Tree.{PlacingsApart, LoadingsApart, component_in}
 use Rattle.tree.specs.Workload.{load_in}
 

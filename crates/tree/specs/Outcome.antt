@@ -6,7 +6,7 @@ use Rattle.tree.specs.declared.answer.Outcome.TheVariants as variant
 use Rattle.tree.specs.numbers.Load.{Load}
 use Rattle.tree.specs.numbers.Outcome.{Outcome}
 
--- the judge as it stands, on the component with its workload; waiting comes before any refusal of it
+-- what the judge answers of the component with its workload; waiting comes before any refusal of it
 unfoldable pub outcome_of : Load → Outcome
 outcome_of l = cond l.waiting Outcome.Waiting (Outcome.Judged (judge_answer l.component))
 

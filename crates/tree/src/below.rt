@@ -8,14 +8,14 @@ ghost use Rattle.tree.specs.Workload.{load_in, load_on};
 ghost use Rattle.tree.specs.inner.Below.{offers_below, outcome_wanted, wanted_of};
 
 use crate::offer::Offer;
-use crate::offering::offer_of;
+use crate::offering::{offer_of, offering};
 use crate::outcome::judge_next;
 use crate::turn::Pass;
 use crate::wanted::Wanted;
 use crate::workload::load;
 use budget::component::Capacity;
+use budget::interface::Interface;
 use budget::known::Known;
-use budget::quantity::{Time, Units};
 use record::layout::{Head, Pair, Record, record_of};
 use transfer::read::{part_at, read_part};
 
@@ -35,17 +35,20 @@ pub(crate) fn wanted_below(pairs: &[Pair], number: u16) -> Wanted
 
 // What the record of the component of a part says; no task is read. Without a component record it is the stand-in's.
 #[tactic(auto, unfolding(budget::specs::Component::refused, transfer::specs::Reading::component_from, transfer::specs::Reading::with_head))]
-fn head_of(part: &[u8]) -> Head
+fn begun_by(part: &[u8]) -> Head
     ensures { let c = component_from part.now (record_of part.now) in result ≡ record { number = c.number; period = c.period; capacity = c.capacity; deadline = c.deadline } }
 {
     match record_of(part) {
         Ok(Record::Component(head)) => head,
-        _ => Head {
-            number: 0,
-            period: Time(1),
-            capacity: Capacity::Stated(Units(1)),
-            deadline: Time(1),
-        },
+        _ => {
+            let interface = Interface::DEDICATED;
+            Head {
+                number: 0,
+                period: interface.period,
+                capacity: Capacity::Stated(interface.capacity),
+                deadline: interface.deadline,
+            }
+        }
     }
 }
 
@@ -54,18 +57,13 @@ fn offer_at(pass: Pass<'_>, place: usize, wanted: &Wanted, offers: &[Offer]) -> 
     ensures { let c = read_at pass.entry.sheet.now pass.entry.edges.now place in offered_in result ≡ offer_of c (outcome_wanted wanted.now pass.entry.pairs.now (map offered_in offers.now) c) }
 {
     let part = part_at(pass.sheet, pass.edges, place);
-    let head = head_of(part);
+    let head = begun_by(part);
     if wanted.holds(head.number) {
         let known = read_part(part);
         let outcome = judge_next(known, pass.pairs, offers);
         return offer_of(known.component, outcome);
     }
-    Offer {
-        number: u32::from(head.number),
-        capacity: None,
-        period: head.period,
-        deadline: head.deadline,
-    }
+    offering(head, None)
 }
 
 // The offers of the components before a place, as far as they are wanted; each is read between its edges and judged after its children.
@@ -75,6 +73,7 @@ fn offers_below(pass: Pass<'_>, wanted: &Wanted, place: usize) -> [Offer; 256]
 {
     let mut offers = [Offer::NONE; 256];
     for k in 0..place {
+        // Those from k on are not noted yet.
         let offer = offer_at(pass, k, wanted, &offers[..k]);
         offers[k] = offer;
     }

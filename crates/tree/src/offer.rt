@@ -4,7 +4,8 @@ ghost use Rattle.std.proofs.Props.{props};
 
 use budget::quantity::{Time, Units};
 
-// A component's number, the capacity that it is accepted with, its period and its deadline; one that is not accepted withholds a capacity.
+// A component's number, the capacity that it is accepted with, its period and its deadline; one that is not accepted withholds a capacity. The number is wider
+// than a component's, since a row that is lent to `turn_at` may hold any. No capacity told is the number that stands for one withheld (`withheld` of specs/Offer).
 #[derive(Clone, Copy)]
 pub struct Offer {
     pub number: u32,

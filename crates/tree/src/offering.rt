@@ -1,6 +1,6 @@
 // The offer of a component, by what it is answered (RULES 7).
 ghost use Rattle.std.specs.Prelude.{◌≡◌, ◌<◌, IfSome};
-ghost use Rattle.tree.specs.Offer.{capacity_in, offered_in, offering, offer_of};
+ghost use Rattle.tree.specs.Offer.{capacity_in, offered_in, offer_of};
 ghost use Rattle.tree.specs.Outcome.{outcome_in};
 ghost use Rattle.tree.specs.inner.Told.{Told};
 
@@ -9,16 +9,18 @@ use crate::offer::Offer;
 use budget::component::Component;
 use budget::quantity::Units;
 use judge::answer::Verdict;
+use record::layout::Head;
 
-fn offering(component: Component, capacity: Option<Units>) -> Offer
+// The offer of a component of which its record is known, at a capacity or with none.
+pub(crate) fn offering(head: Head, capacity: Option<Units>) -> Offer
     requires { IfSome capacity (λ u. u.0 < 4_294_967_295) }
-    ensures { offered_in result ≡ offering component (capacity_in capacity) }
+    ensures { offered_in result ≡ record { number = head.number; capacity = capacity_in capacity; period = head.period.0; deadline = head.deadline.0 } }
 {
     Offer {
-        number: u32::from(component.number),
+        number: u32::from(head.number),
         capacity,
-        period: component.period,
-        deadline: component.deadline,
+        period: head.period,
+        deadline: head.deadline,
     }
 }
 
@@ -28,12 +30,26 @@ pub(crate) fn offer_of(component: Component, outcome: Outcome) -> Offer
     requires { Told (outcome_in outcome) }
     ensures { offered_in result ≡ offer_of component (outcome_in outcome) }
 {
+    // What its record says. (No `From`: its types are of crates below.)
+    let Component {
+        number,
+        period,
+        capacity,
+        deadline,
+        ..
+    } = component;
+    let head = Head {
+        number,
+        period,
+        capacity,
+        deadline,
+    };
     match outcome {
-        Outcome::Waiting => offering(component, None),
+        Outcome::Waiting => offering(head, None),
         Outcome::Judged(Ok(judgement)) if judgement.verdict == Verdict::Accepted => offering(
-            component,
+            head,
             Some(judgement.capacity),
         ),
-        Outcome::Judged(_) => offering(component, None),
+        Outcome::Judged(_) => offering(head, None),
     }
 }

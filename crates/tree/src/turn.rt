@@ -11,7 +11,7 @@ use crate::outcome::judge_next;
 use record::layout::Pair;
 use transfer::read::read_at;
 
-// What a pass goes by: a sheet, the edges between its components, and its pairs.
+// What a pass goes by: a sheet, the edges between its components, and its pairs. A place is no part of it: one pass serves all places.
 #[derive(Clone, Copy)]
 pub struct Pass<'a> {
     pub sheet: &'a [u8],
@@ -20,7 +20,7 @@ pub struct Pass<'a> {
 }
 
 // Reads the component at a place between its edges, judges it, and notes its offer behind the others. Without a place in
-// the row it is as good as waiting.
+// the row it is answered as waiting, and not refused: that is promised (clause `full`).
 pub fn turn_at(pass: Pass<'_>, place: usize, offers: &mut [Offer]) -> Placed
     ensures turned { place < length offers.old → Turned (read_at pass.entry.sheet.now pass.entry.edges.now place) pass.entry.pairs.now place (row_in offers.old) (row_in offers.new) (turn_in result) }
     ensures full { length offers.old ≤ place → (result ≡ record { number = (read_at pass.entry.sheet.now pass.entry.edges.now place).number; outcome = Outcome.Waiting }) × (offers.new ≡ offers.old) }

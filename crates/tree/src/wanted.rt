@@ -1,4 +1,5 @@
-// The numbers of the components that are wanted, in a row of fixed length: the kit's ArrayVec is made with an allocator, and this crate has none.
+// The numbers of the components that are wanted: a row in fixed memory with its count, since the contracts want the list of its numbers alone, which the Model
+// gives.
 ghost use Rattle.std.specs.Prelude.{◌≡◌, ◌<◌, [], ◌∷◌, ◌++◌, length};
 ghost use Rattle.tree.specs.inner.Below.{holds};
 

@@ -26,7 +26,8 @@ fn find_offer(offers: &[Offer], number: u16) -> Option<Offer>
         .find(|offer| offer.number == u32::from(number))
 }
 
-// The tasks of a table with zeros behind them, as they are returned.
+// A table as tables are handed back: its tasks, and zeros behind them (RULES 2). Budget's `table_from` is its own and asks that the tasks fit; a count above 64
+// is taken as 64 here.
 fn own_tasks(table: Table) -> Table
     ensures { result ≡ table_of (take most_tasks (tasks_of table)) }
 {

@@ -18,7 +18,7 @@ asked : (c : After-holds) → let a = c.args in c.holds.result ≡ holds a.wante
 unfolding read_at
 asked c =
     c.holds.ensures
-    ∙ ap (λ (h : Head). holds c.args.wanted.now h.number) c.head_of-head.ensures
+    ∙ ap (λ (h : Head). holds c.args.wanted.now h.number) c.begun_by-head.ensures
     ∙ ap (λ (p : List ℕ). holds c.args.wanted.now (component_from p (record_of p)).number) c.part_at-part.ensures
 
 pub offer_of-requires : goal.offer_of-requires
@@ -30,4 +30,4 @@ returns-then-holds c = rw (sym (asked (goal.at.returns-then-holds c).After-holds
 
 pub returns : goal.returns
 unfolding outcome_wanted offer_of read_at
-returns c = rw (sym (asked (goal.at.returns c).After-holds) ∙ c.if-holds.false, c.from.ensures, c.head_of-head.ensures, c.part_at-part.ensures)
+returns c = rw (sym (asked (goal.at.returns c).After-holds) ∙ c.if-holds.false, c.offering.ensures, c.begun_by-head.ensures, c.part_at-part.ensures)
