@@ -4,16 +4,7 @@ use budget::common::Common;
 use budget::component::{Capacity, Component};
 use budget::interface::Interface;
 use budget::quantity::{Time, Units};
-use budget::task::{Table, Task};
-
-// The numbers that a component begins with, before its stored common period and its table.
-#[derive(Clone, Copy)]
-pub struct Head {
-    pub number: u16,
-    pub period: Time,
-    pub capacity: Capacity,
-    pub deadline: Time,
-}
+use budget::task::{Table, Task, no_tasks};
 
 // What stands in a task place that is to be ignored: no task, with a lateness above the deadline and both as large as can be, so that
 // nothing may count with them.
@@ -67,14 +58,17 @@ impl Words<'_> {
         }
     }
 
-    pub fn head(&mut self) -> Head {
+    // A component as far as its deadline: its stored common period and its tasks are still to be read.
+    pub fn head(&mut self) -> Component {
         let number = self.component_number();
         let capacity = self.capacity();
-        Head {
+        Component {
             number,
             capacity,
             period: self.time(),
             deadline: self.time(),
+            common: Common::Above,
+            table: no_tasks(),
         }
     }
 
@@ -90,12 +84,9 @@ impl Words<'_> {
     pub fn component(&mut self) -> Component {
         let head = self.head();
         Component {
-            number: head.number,
-            period: head.period,
-            capacity: head.capacity,
-            deadline: head.deadline,
             common: self.common(),
             table: self.table(),
+            ..head
         }
     }
 }

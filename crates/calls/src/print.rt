@@ -5,7 +5,7 @@ use std::fmt::Display;
 use std::io::Write;
 
 // An answer so far, its words separated by single spaces; what does not fit is left out. The longest is a part of a sheet, two digits
-// for each of its 65,536 bytes.
+// for each of its 65,536 bytes. A call takes `words` and `out` side by side, in no struct of both, since one is read while the other is written.
 #[derive(Drop)]
 pub struct Out {
     bytes: ArrayVec<u8, 140_000>,

@@ -4,7 +4,7 @@ ghost use Rattle.calls.specs.Counts.{IsPrefixLen};
 
 use crate::words::Words;
 
-// Room for the longest row of a call.
+// Room for the longest row of a call (docs/CALLS.md): memory is fixed, so each call that has a row has a buffer of this size.
 pub const ROOM: usize = 65_600;
 
 // What a list may hold, and how it is read.
@@ -24,7 +24,7 @@ impl Listed for i32 {
     }
 }
 
-// The value of a hex digit, in the last four bits.
+// The value of a hex digit, in the last four bits. It is no `char::to_digit`, since it refuses no byte: a line that is no call is read too (docs/CALLS.md).
 fn hex_digit(byte: u8) -> u8 {
     if byte >= b'a' {
         return (byte - b'a' + 10) % 16;
@@ -32,20 +32,19 @@ fn hex_digit(byte: u8) -> u8 {
     byte % 16
 }
 
-// Puts one value after the other into the front of what is lent, and answers that front.
+// Puts one value after the other into the front of what is lent, and answers that front. The clause stands here, at `row` and at `list`, and in no type,
+// since each of the three answers a part of the caller's own slice.
 fn filled<T: Copy, F: FnMut() -> Option<T>>(lent: &mut [T], mut next: F) -> &[T]
     requires { F.IsAlwaysCallable next }
     ensures { IsPrefixLen (length result.now) lent.old }
 {
-    let mut count = 0;
-    for place in lent.iter_mut() {
+    for (count, place) in lent.iter_mut().enumerate() {
         match next() {
             Some(value) => *place = value,
-            None => break,
+            None => return &lent[..count],
         }
-        count += 1;
     }
-    &lent[..count]
+    lent
 }
 
 impl Words<'_> {

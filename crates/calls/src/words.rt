@@ -44,6 +44,7 @@ impl<'a> Words<'a> {
     }
 
     // A number, or the largest where it is larger; its digits have the codes 48 to 57, of which the last four bits are the digit.
+    // It is no `parse`, which refuses: every word reads as a number, in a line that is no call too (docs/CALLS.md).
     pub fn number(&mut self) -> u64 {
         self.before(|byte| *byte < b'0')
             .iter()
@@ -59,7 +60,7 @@ impl<'a> Words<'a> {
         self.number() as usize
     }
 
-    // A component's number: the last 16 bits.
+    // A component's number: the last 16 bits. The `%` takes them, since a cast has to lose nothing.
     pub fn component_number(&mut self) -> u16 {
         (self.number() % 65_536) as u16
     }

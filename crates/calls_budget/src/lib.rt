@@ -7,7 +7,7 @@ mod numbers;
 use calls::print::Out;
 use calls::words::Words;
 
-// Answers the call, and says whether it is one of this crate.
+// Answers the call, and says whether it is one of this crate: `||` goes on to the next module where the call is none of the one before.
 pub fn answer(call: &str, words: Words<'_>, out: &mut Out) -> bool {
     numbers::answer(call, words, out) || edits::answer(call, words, out)
 }

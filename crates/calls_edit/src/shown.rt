@@ -5,7 +5,7 @@ use calls_judge::shown::{put_judgement, put_smallest};
 use judge::known::{judge, smallest_capacity};
 use transfer::known::write_component;
 
-// The bytes of the component's records; those of 64 tasks fit into the buffer.
+// The bytes of the component's records. Memory is fixed: those of 64 tasks fit into the buffer (docs/CALLS.md).
 fn put_records(out: &mut Out, known: Known) {
     let mut buffer = [0u8; 2048];
     let written = write_component(&mut buffer, 0, known);

@@ -6,8 +6,9 @@ use calls::print::Out;
 use calls::rows::ROOM;
 use calls::words::Words;
 
-// Calls with the buffer and the place in it that the call says, and shows what is returned and the buffer. (`calls_sheet` has one much like it: a public
-// one for both would have to ask that its closure can be called.)
+// Calls with the buffer and the place in it that the call says, and shows what is returned and the buffer. (`calls_sheet` has one much like it: one for both
+// would be public and need a `requires` for its closure, which no public function may have.) Memory is fixed: the longest buffer has 4,096 bytes
+// (docs/CALLS.md).
 fn called<F: FnOnce(&mut [u8], usize) -> u32>(words: &mut Words<'_>, out: &mut Out, call: F)
     requires { F.IsAlwaysCallable call }
 {

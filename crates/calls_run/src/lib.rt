@@ -47,7 +47,7 @@ fn put_walked(out: &mut Out, answered: Result<Walked, Refusal>, left: &[u32]) {
     out.list(left);
 }
 
-// A walk has as much of the work-left buffer as the call says.
+// A walk has as much of the work-left buffer as the call says. Memory is fixed: every list has room for the most that one may hold (docs/CALLS.md).
 fn walk(words: &mut Words<'_>, out: &mut Out) {
     let table = words.table();
     let mut tasks = [0u32; 2048];

@@ -1,4 +1,4 @@
-// Calls that are given a sheet.
+// Calls that are given a sheet, each with a buffer for it, since memory is fixed.
 use crate::shown;
 use calls::print::Out;
 use calls::rows::ROOM;

@@ -5,8 +5,8 @@ use calls::words::Words;
 use transfer::pair::{self, Pair};
 use transfer::write;
 
-// Writes into the buffer from the place on that the call says, and shows the answer and the buffer. (`calls_host` has one much like it: a public one for
-// both would have to ask that its closure can be called.)
+// Writes into the buffer from the place on that the call says, and shows the answer and the buffer. (`calls_host` has one much like it: one for both would
+// be public and need a `requires` for its closure, which no public function may have.) Memory is fixed: the longest buffer has 4,096 bytes (docs/CALLS.md).
 fn written<F: FnOnce(&mut [u8], usize) -> Result<usize, Refusal>>(
     words: &mut Words<'_>,
     out: &mut Out,

@@ -30,6 +30,7 @@ fn workload(words: &mut Words<'_>, out: &mut Out) {
     }
 }
 
+// A component that can't be judged, its workload's L being too long, is refused with the place 0 (RULES 11).
 fn put_outcome(out: &mut Out, number: u16, outcome: Outcome) {
     match outcome {
         Outcome::Waiting => {

@@ -7,7 +7,7 @@ use lines::{Held, line_end};
 use std::io;
 use std::io::Read;
 
-// The answer to a line, tried crate by crate: its first word names the call.
+// The answer to a line: its first word names the call, and `||` goes on to the next crate where the call is none of the one before.
 fn answer(line: &[u8], out: &mut Out) {
     let mut words = Words::of(line);
     let call = words.name();
@@ -78,7 +78,7 @@ fn answer_all(rt: &(impl Print + Eprint), input: &mut impl Read, row: &mut [u8],
     }
 }
 
-// The row has room for the longest call.
+// The row has room for the longest call (docs/CALLS.md), in fixed memory.
 fn main(rt: HostRuntime) {
     let mut row = [0u8; 262144];
     let mut out = Out::new();

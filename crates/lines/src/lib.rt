@@ -6,7 +6,8 @@ ghost use Rattle.lines.specs.Lines.{Behind, Kept, LineEnd, Refilled, Stopped, Ta
 use std::io::Read;
 
 // What is held of the input in a row: the lines that are taken end at `start`, no line ends from there to `seen`, and the row
-// holds the bytes up to `end`. Once it is not open, nothing more is read.
+// holds the bytes up to `end`. Once it is not open, nothing more is read. The row is the caller's own, and no part of this, since `Refilled` speaks of its
+// bytes before and after, and a line of it is answered while this stands.
 #[derive(Clone, Copy)]
 pub struct Held {
     pub start: usize,
@@ -16,7 +17,7 @@ pub struct Held {
     pub open: bool,
 }
 
-// The place of the first line end from a place on, or the end of the bytes.
+// The place of the first line end from a place on, or the end of the bytes. It is no `Option`: `LineEnd`, which docs/CLAIMS.md names, has a place for both.
 pub fn line_end(bytes: &[u8], from: usize) -> usize
     ensures { LineEnd bytes.now from result }
 {

@@ -1,7 +1,6 @@
--- What is filled is a part of what is lent: each turn fills at most one place more.
-use Rattle.std.proofs.Common.{◌≤◌}
+-- What is filled is a part of what is lent, since the place of the turn that ends it is one of its places.
 use denote.Param.Always.{always_mut}
 use Rattle.calls.proofs.rows.filled.Given as goal
 
-abbrev pub invariant-loop-place : goal.invariant-loop-place
-invariant-loop-place g l = always_mut g.F.FnMut l.next × l.count ≤ l.place-index
+abbrev pub invariant-loop-count : goal.invariant-loop-count
+invariant-loop-count g l = always_mut g.F.FnMut l.next
