@@ -39,7 +39,7 @@ pub(crate) fn put_all(sheet: &[u8], contents: &Contents, entries: &mut [u8])
     requires room { 36 * contents.now.count ≤ length entries.old }
     ensures { entries.new ≡ sets entries.old 0 (entries_to sheet.now contents.now.count) }
 {
-    // The listing's pass and that of one place are set up alike: a public function for it would have to ask that the last edge lies in the sheet, and none asks.
+    // The listing's pass and that of one place begin alike. No function could answer a pass, which is lent the pairs that are read here; a constructor of one would be no shorter.
     let count = contents.count;
     let pairs = read_pairs(&sheet[contents.edges[count]..]);
     let pass = Pass {

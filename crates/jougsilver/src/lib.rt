@@ -18,7 +18,7 @@ use sheet::contents::contents_of;
 use transfer::reply::{write_checked, write_reply};
 use tree::place::judge_place;
 
-// The calls promise two clauses each, of the answer and of the bytes: a host in C relies on them call by call, and they speak of different operations.
+// Each call promises two clauses, of the answer and of the bytes, over definitions of its own: a host relies on them call by call, so no two share a clause.
 
 // The refusals in their order (RULES 13): of the place, of the component, of the room.
 fn judge_at(sheet: &[u8], place: usize, reply: &mut [u8], at: usize) -> Result<usize, Refusal>

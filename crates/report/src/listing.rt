@@ -32,7 +32,7 @@ fn add_components(sheet: &[u8], contents: &Contents, page: &mut Page) -> usize
     requires { Known sheet.now contents.now.edges contents.now.count }
     ensures { Lines sheet.now page.old contents.now.count page.new result }
 {
-    // The host's pass and that of one place are set up alike: a public function for it would have to ask that the last edge lies in the sheet, and none asks.
+    // The host's pass and that of one place begin alike. No function could answer a pass, which is lent the pairs that are read here; a constructor of one would be no shorter.
     let count = contents.count;
     let pairs = read_pairs(&sheet[contents.edges[count]..]);
     let pass = Pass {
