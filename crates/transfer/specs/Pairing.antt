@@ -1,4 +1,4 @@
--- Reading pairs and writing one (docs/RULES.md, 10 and 11).
+-- Reading pairs and writing one (RULES 10, 11).
 use Rattle.std.specs.Prelude.{ℕ, zero, suc, ◌-◌, cond, List, [], ◌∷◌, ◌++◌, ◌≡◌, length, get_or, drop, replicate, ltb, eqb, Result, Ok, Err}
 use Rattle.budget.specs.Refusal as refusal
 use Rattle.record.specs.declared.layout.Pair.{Pair}

@@ -47,8 +47,8 @@ unfoldable pub tasks_in : ℕ → List ℕ → List Task
 tasks_in zero s = []
 tasks_in (suc n) s = task_then (record_of s) (tasks_in n (drop (size_of (record_of s)) s))
 
--- the component that a component record says, with these tasks, zero in what is returned from the count on, and their common period (docs/RULES.md, 2
--- and 3)
+-- the component that a component record says, with these tasks, zero in what is returned from the count on, and their common period
+-- (RULES 2, 3)
 unfoldable pub with_head : Head → List Task → Component
 with_head h ks =
     record {

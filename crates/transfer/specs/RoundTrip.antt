@@ -1,4 +1,4 @@
--- The two round trips, stated over what the operations answer (docs/RULES.md, 10 and 11): `reading` and `pair_reading` are what read_component and
+-- The two round trips, stated over what the operations answer (RULES 10, 11): `reading` and `pair_reading` are what read_component and
 -- read_pair answer, `put`, `put_pair` and `close` are what write_component, write_pair and write_end leave and answer.
 use Rattle.std.specs.Prelude.{ℕ, zero, suc, ◌+◌, ◌≤◌, ◌<◌, List, [], ◌∷◌, ◌++◌, ◌≡◌, length, get_or, take, drop}
 use Rattle.budget.specs.declared.component.Component.{Component}

@@ -17,6 +17,8 @@ use sheet::check::MOST_COMPONENTS;
 use sheet::fault::Fault;
 use sheet::part::locate;
 
+// The tasks of a component, from behind its record on. (`read_pairs` goes through records likewise: each puts what it reads into a type of its own, and a
+// closure for it would bring the invariant in as an argument.)
 fn read_tasks(part: &[u8], start: usize) -> Table
     requires { start ≤ length part.now }
     ensures { result ≡ table_of (tasks_in 64 (drop start part.now)) }

@@ -30,20 +30,7 @@ pub(crate) fn offer_of(component: Component, outcome: Outcome) -> Offer
     requires { Told (outcome_in outcome) }
     ensures { offered_in result ≡ offer_of component (outcome_in outcome) }
 {
-    // What its record says. (No `From`: its types are of crates below.)
-    let Component {
-        number,
-        period,
-        capacity,
-        deadline,
-        ..
-    } = component;
-    let head = Head {
-        number,
-        period,
-        capacity,
-        deadline,
-    };
+    let head = Head::from(component);
     match outcome {
         Outcome::Waiting => offering(head, None),
         Outcome::Judged(Ok(judgement)) if judgement.verdict == Verdict::Accepted => offering(

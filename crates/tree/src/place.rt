@@ -31,6 +31,7 @@ pub fn load_place(sheet: &[u8], place: usize) -> Result<Loaded, Fault>
             place: 0,
         });
     }
+    // The passes of the host and of the listing begin alike: a constructor of one, which is lent the pairs that are read here, would be no shorter.
     let from = found.edges[found.count];
     let pairs = read_pairs(&sheet[from..]);
     let pass = Pass {
