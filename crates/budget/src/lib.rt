@@ -1,6 +1,7 @@
 // The ground of the judge: quantities, tasks, interfaces, components, their common period, demand and supply.
 #![tactic(auto)]
 
+pub mod answered;
 pub mod check;
 pub mod common;
 pub mod common_period;

@@ -4,7 +4,7 @@ use budget::common::Common;
 use budget::component::{Capacity, Component};
 use budget::interface::Interface;
 use budget::quantity::{Time, Units};
-use budget::task::{Table, Task, no_tasks};
+use budget::task::{Table, Task};
 
 // What stands in a task place that is to be ignored: no task, with a lateness above the deadline and both as large as can be, so that
 // nothing may count with them.
@@ -14,6 +14,16 @@ const NO_TASK: Task = Task {
     deadline: Time(4_294_967_294),
     lateness: Time(4_294_967_295),
 };
+
+// A component as far as its deadline: its stored common period and its tasks are still to be read. It has no table, since each table that is made and
+// filled over again is a kibibyte.
+#[derive(Clone, Copy)]
+pub struct Head {
+    pub number: u16,
+    pub capacity: Capacity,
+    pub period: Time,
+    pub deadline: Time,
+}
 
 impl Words<'_> {
     pub fn time(&mut self) -> Time {
@@ -58,17 +68,12 @@ impl Words<'_> {
         }
     }
 
-    // A component as far as its deadline: its stored common period and its tasks are still to be read.
-    pub fn head(&mut self) -> Component {
-        let number = self.component_number();
-        let capacity = self.capacity();
-        Component {
-            number,
-            capacity,
+    pub fn head(&mut self) -> Head {
+        Head {
+            number: self.component_number(),
+            capacity: self.capacity(),
             period: self.time(),
             deadline: self.time(),
-            common: Common::Above,
-            table: no_tasks(),
         }
     }
 
@@ -82,11 +87,19 @@ impl Words<'_> {
     }
 
     pub fn component(&mut self) -> Component {
-        let head = self.head();
+        let Head {
+            number,
+            capacity,
+            period,
+            deadline,
+        } = self.head();
         Component {
+            number,
+            period,
+            capacity,
+            deadline,
             common: self.common(),
             table: self.table(),
-            ..head
         }
     }
 }

@@ -1,8 +1,11 @@
 // An answer, put together word by word.
 use arrayvec::ArrayVec;
 use budget::refusal::Refusal;
-use std::fmt::Display;
+use itoa::{Buffer, Integer};
 use std::io::Write;
+
+// The hex digits, each at its value.
+const DIGITS: [u8; 16] = *b"0123456789abcdef";
 
 // An answer so far, its words separated by single spaces; what does not fit is left out. The longest is a part of a sheet, two digits
 // for each of its 65,536 bytes. A call takes `words` and `out` side by side, in no struct of both, since one is read while the other is written.
@@ -26,6 +29,11 @@ impl Out {
         self.bytes.as_slice()
     }
 
+    // Bytes behind those that stand there, as many as fit.
+    fn put(&mut self, bytes: &[u8]) {
+        let _ = self.bytes.write(bytes);
+    }
+
     // The space before a word that is not the first.
     fn space(&mut self) {
         if !self.bytes.is_empty() {
@@ -33,9 +41,15 @@ impl Out {
         }
     }
 
-    pub fn word(&mut self, word: impl Display + Drop) {
+    pub fn word(&mut self, word: &str) {
         self.space();
-        let _ = write!(self.bytes, "{word}");
+        self.put(word.as_bytes());
+    }
+
+    // A number as a word, in decimal digits, behind `-` where it is negative. By `itoa`, as by `write!` a call took up to half as long again (measured).
+    pub fn number(&mut self, number: impl Integer) {
+        let mut digits = Buffer::new();
+        self.word(digits.format(number));
     }
 
     pub fn ok(&mut self) {
@@ -44,7 +58,7 @@ impl Out {
 
     pub fn refused(&mut self, refusal: Refusal) {
         self.word("refused");
-        self.word(u16::from(refusal));
+        self.number(u16::from(refusal));
     }
 
     // `ok`, or `refused` and the refusal's number.
@@ -55,28 +69,23 @@ impl Out {
         }
     }
 
-    // An answer of one number, 0 where it is refused.
-    pub fn number(&mut self, answered: Result<u32, Refusal>) {
-        self.status(&answered);
-        self.word(answered.unwrap_or(0));
-    }
-
-    // A row of bytes in hex, or `-` for none.
+    // A row of bytes in hex, or `-` for none. Digit by digit: by `write!` a call of `write` took three times as long (measured).
     pub fn row(&mut self, row: &[u8]) {
         if row.is_empty() {
-            return self.word('-');
+            return self.word("-");
         }
         self.space();
         for byte in row {
-            let _ = write!(self.bytes, "{byte:02x}");
+            let _ = self.bytes.try_push(DIGITS[usize::from(byte / 16)]);
+            let _ = self.bytes.try_push(DIGITS[usize::from(byte % 16)]);
         }
     }
 
     // A list's count and its numbers.
     pub fn list(&mut self, list: &[u32]) {
-        self.word(list.len());
+        self.number(list.len());
         for number in list {
-            self.word(*number);
+            self.number(*number);
         }
     }
 

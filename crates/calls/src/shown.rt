@@ -1,20 +1,21 @@
 // What an answer shows of a component.
 use crate::print::Out;
+use budget::answered::answered_component;
 use budget::common::Common;
-use budget::component::{Capacity, Component, refused};
+use budget::component::{Capacity, Component};
 use budget::refusal::Refusal;
 use budget::task::{Table, Task};
 
 impl Out {
     fn task(&mut self, task: Task) {
-        self.word(task.period.0);
-        self.word(task.work.0);
-        self.word(task.deadline.0);
-        self.word(task.lateness.0);
+        self.number(task.period.0);
+        self.number(task.work.0);
+        self.number(task.deadline.0);
+        self.number(task.lateness.0);
     }
 
     fn table(&mut self, table: Table) {
-        self.word(table.count);
+        self.number(table.count);
         for task in table.tasks() {
             self.task(*task);
         }
@@ -24,7 +25,7 @@ impl Out {
         match capacity {
             Capacity::Stated(units) => {
                 self.word("stated");
-                self.word(units.0);
+                self.number(units.0);
             }
             Capacity::Asked => self.word("asked"),
         }
@@ -32,7 +33,7 @@ impl Out {
 
     fn common(&mut self, common: Common) {
         match common {
-            Common::Within(length) => self.word(length.0),
+            Common::Within(length) => self.number(length.0),
             Common::Above => self.word("above"),
         }
     }
@@ -53,10 +54,10 @@ impl Out {
 
     // A component as it is given in a call, and whether the rest of its task places is zero.
     pub fn component(&mut self, component: Component) {
-        self.word(component.number);
+        self.number(component.number);
         self.capacity(component.capacity);
-        self.word(component.period.0);
-        self.word(component.deadline.0);
+        self.number(component.period.0);
+        self.number(component.deadline.0);
         self.common(component.common);
         self.table(component.table);
         self.rest(component.table);
@@ -65,6 +66,6 @@ impl Out {
     // The answer of an edit; one that is refused shows the component that stands for none.
     pub fn edited(&mut self, answered: Result<Component, Refusal>) {
         self.status(&answered);
-        self.component(answered.unwrap_or(refused()));
+        self.component(answered_component(answered));
     }
 }

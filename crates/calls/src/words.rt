@@ -16,12 +16,10 @@ impl<'a> Words<'a> {
         self.rest.first() == Some(&byte)
     }
 
-    // What stands before the first byte that ends it; that byte is passed too.
-    fn before<F: FnMut(&u8) -> bool>(&mut self, ends: F) -> &'a [u8]
-        requires { F.IsAlwaysCallable ends }
-    {
+    // The next word, without the space behind it.
+    pub fn word(&mut self) -> &'a [u8] {
         let rest = self.rest;
-        match rest.iter().position(ends) {
+        match rest.iter().position(|byte| *byte == b' ') {
             Some(end) => {
                 self.rest = &rest[end + 1..];
                 &rest[..end]
@@ -33,26 +31,20 @@ impl<'a> Words<'a> {
         }
     }
 
-    // The next word, without the space behind it.
-    pub fn word(&mut self) -> &'a [u8] {
-        self.before(|byte| *byte == b' ')
-    }
-
-    // The next word as a name, empty where it is no text.
-    pub fn name(&mut self) -> &'a str {
-        str::from_utf8(self.word()).unwrap_or("")
-    }
-
     // A number, or the largest where it is larger; its digits have the codes 48 to 57, of which the last four bits are the digit.
     // It is no `parse`, which refuses: every word reads as a number, in a line that is no call too (docs/CALLS.md).
     pub fn number(&mut self) -> u64 {
-        self.before(|byte| *byte < b'0')
-            .iter()
+        let mut bytes = self.rest.iter();
+        let value = bytes
+            .by_ref()
+            .take_while(|byte| **byte >= b'0')
             .fold(0, |value: u64, byte| {
                 value
                     .saturating_mul(10)
                     .saturating_add(u64::from(byte % 16))
-            })
+            });
+        self.rest = bytes.as_slice();
+        value
     }
 
     // A place in a row, or a count.

@@ -28,12 +28,12 @@ fn remove_task(words: &mut Words<'_>, out: &mut Out) {
 }
 
 // Answers the call, and says whether it is one of these.
-pub(crate) fn answer(call: &str, mut words: Words<'_>, out: &mut Out) -> bool {
+pub(crate) fn answer(call: &[u8], mut words: Words<'_>, out: &mut Out) -> bool {
     let words = &mut words;
     match call {
-        "make" => make(words, out),
-        "add_task" => add_task(words, out),
-        "remove_task" => remove_task(words, out),
+        b"make" => make(words, out),
+        b"add_task" => add_task(words, out),
+        b"remove_task" => remove_task(words, out),
         _ => return false,
     }
     true

@@ -1,4 +1,7 @@
 // Calls on tasks, interfaces and components.
+use budget::answered::{answered_length, answered_units};
+use budget::quantity::Units;
+use budget::refusal::Refusal;
 use budget::{check, common, common_period, demand, interface, supply, task};
 use calls::print::Out;
 use calls::words::Words;
@@ -26,47 +29,55 @@ fn check_component(words: &mut Words<'_>, out: &mut Out) {
 fn dedicated(out: &mut Out) {
     let dedicated = interface::dedicated();
     out.ok();
-    out.word(dedicated.period.0);
-    out.word(dedicated.capacity.0);
-    out.word(dedicated.deadline.0);
+    out.number(dedicated.period.0);
+    out.number(dedicated.capacity.0);
+    out.number(dedicated.deadline.0);
 }
 
 fn common_divisor(words: &mut Words<'_>, out: &mut Out) {
     let first = words.long();
     let second = words.long();
-    out.number(Ok(common::common_divisor(first, second)));
+    out.ok();
+    out.number(common::common_divisor(first, second));
 }
 
 fn common_period(words: &mut Words<'_>, out: &mut Out) {
     let component = words.component();
-    out.number(common_period::common_period(component).map(|length| length.0));
+    let answered = common_period::common_period(component);
+    out.status(&answered);
+    out.number(answered_length(answered).0);
+}
+
+fn put_units(out: &mut Out, answered: Result<Units, Refusal>) {
+    out.status(&answered);
+    out.number(answered_units(answered).0);
 }
 
 fn demand(words: &mut Words<'_>, out: &mut Out) {
     let table = words.table();
     let t = words.time();
-    out.number(demand::demand(table, t).map(|units| units.0));
+    put_units(out, demand::demand(table, t));
 }
 
 fn supply(words: &mut Words<'_>, out: &mut Out) {
     let interface = words.interface();
     let t = words.time();
-    out.number(supply::supply(interface, t).map(|units| units.0));
+    put_units(out, supply::supply(interface, t));
 }
 
 // Answers the call, and says whether it is one of these.
-pub(crate) fn answer(call: &str, mut words: Words<'_>, out: &mut Out) -> bool {
+pub(crate) fn answer(call: &[u8], mut words: Words<'_>, out: &mut Out) -> bool {
     let words = &mut words;
     match call {
-        "check_task" => check_task(words, out),
-        "check_table" => check_table(words, out),
-        "check_interface" => check_interface(words, out),
-        "check_component" => check_component(words, out),
-        "dedicated" => dedicated(out),
-        "common_divisor" => common_divisor(words, out),
-        "common_period" => common_period(words, out),
-        "demand" => demand(words, out),
-        "supply" => supply(words, out),
+        b"check_task" => check_task(words, out),
+        b"check_table" => check_table(words, out),
+        b"check_interface" => check_interface(words, out),
+        b"check_component" => check_component(words, out),
+        b"dedicated" => dedicated(out),
+        b"common_divisor" => common_divisor(words, out),
+        b"common_period" => common_period(words, out),
+        b"demand" => demand(words, out),
+        b"supply" => supply(words, out),
         _ => return false,
     }
     true

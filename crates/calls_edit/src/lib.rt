@@ -25,10 +25,10 @@ fn edit(words: &mut Words<'_>, out: &mut Out) {
 }
 
 // Answers the call, and says whether it is one of this crate.
-pub fn answer(call: &str, mut words: Words<'_>, out: &mut Out) -> bool {
+pub fn answer(call: &[u8], mut words: Words<'_>, out: &mut Out) -> bool {
     let words = &mut words;
     match call {
-        "edit" => edit(words, out),
+        b"edit" => edit(words, out),
         _ => return false,
     }
     true

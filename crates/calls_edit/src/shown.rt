@@ -3,13 +3,14 @@ use budget::known::Known;
 use calls::print::Out;
 use calls_judge::shown::{put_judgement, put_smallest};
 use judge::known::{judge, smallest_capacity};
+use record::write::answered_place;
 use transfer::known::write_component;
 
 // The bytes of the component's records. Memory is fixed: those of 64 tasks fit into the buffer (docs/CALLS.md).
 fn put_records(out: &mut Out, known: Known) {
     let mut buffer = [0u8; 2048];
     let written = write_component(&mut buffer, 0, known);
-    if let Some(records) = buffer.get(..written.unwrap_or(0)) {
+    if let Some(records) = buffer.get(..answered_place(written)) {
         out.row(records);
     }
 }

@@ -15,7 +15,7 @@ fn called<F: FnOnce(&mut [u8], usize) -> u32>(words: &mut Words<'_>, out: &mut O
     let mut buffer = [0xa5u8; 4096];
     match buffer.get_mut(..words.place()) {
         Some(reply) => {
-            out.word(call(reply, words.place()));
+            out.number(call(reply, words.place()));
             out.row(reply);
         }
         None => out.unknown(),
@@ -54,12 +54,12 @@ fn host_all(words: &mut Words<'_>, out: &mut Out) {
 }
 
 // Answers the call, and says whether it is one of this crate.
-pub fn answer(call: &str, mut words: Words<'_>, out: &mut Out) -> bool {
+pub fn answer(call: &[u8], mut words: Words<'_>, out: &mut Out) -> bool {
     let words = &mut words;
     match call {
-        "host" => host(words, out),
-        "host_check" => host_check(words, out),
-        "host_all" => host_all(words, out),
+        b"host" => host(words, out),
+        b"host_check" => host_check(words, out),
+        b"host_all" => host_all(words, out),
         _ => return false,
     }
     true

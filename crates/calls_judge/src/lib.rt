@@ -26,11 +26,11 @@ fn capacity(words: &mut Words<'_>, out: &mut Out) {
 }
 
 // Answers the call, and says whether it is one of this crate.
-pub fn answer(call: &str, mut words: Words<'_>, out: &mut Out) -> bool {
+pub fn answer(call: &[u8], mut words: Words<'_>, out: &mut Out) -> bool {
     let words = &mut words;
     match call {
-        "judge" => judge(words, out),
-        "capacity" => capacity(words, out),
+        b"judge" => judge(words, out),
+        b"capacity" => capacity(words, out),
         _ => return false,
     }
     true

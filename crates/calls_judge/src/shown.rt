@@ -9,15 +9,15 @@ pub fn put_judgement(out: &mut Out, judgement: Judgement) {
         Verdict::Accepted => out.word("accepted"),
         Verdict::Short(instant) => {
             out.word("short");
-            out.word(instant.0);
+            out.number(instant.0);
         }
         Verdict::None => out.word("none"),
     }
-    out.word(judgement.capacity.0);
+    out.number(judgement.capacity.0);
     match judgement.margin {
         Some(margin) => {
-            out.word(margin.units);
-            out.word(margin.at.0);
+            out.number(margin.units);
+            out.number(margin.at.0);
         }
         None => out.word("none"),
     }
@@ -26,7 +26,7 @@ pub fn put_judgement(out: &mut Out, judgement: Judgement) {
 // The smallest capacity, or `none`.
 pub fn put_smallest(out: &mut Out, smallest: Option<Units>) {
     match smallest {
-        Some(units) => out.word(units.0),
+        Some(units) => out.number(units.0),
         None => out.word("none"),
     }
 }

@@ -1,14 +1,13 @@
 // The calls of the crates `trace` and `run` (docs/CALLS.md), each answered by a function of its own.
 #![tactic(auto)]
 
-use budget::quantity::Units;
 use budget::refusal::Refusal;
 use calls::print::Out;
 use calls::rows::ROOM;
 use calls::words::Words;
 use run::jobs::Jobs;
-use run::walk::{Walked, walk as walk_jobs};
-use trace::legal::is_legal;
+use run::walk::{Walked, answered_walk, walk as walk_jobs};
+use trace::legal::{answered_legal, is_legal};
 
 fn legal(words: &mut Words<'_>, out: &mut Out) {
     let interface = words.interface();
@@ -17,33 +16,26 @@ fn legal(words: &mut Words<'_>, out: &mut Out) {
     let trace = words.row(&mut bytes);
     let answered = is_legal(interface, offset, trace);
     out.status(&answered);
-    out.word(if answered.unwrap_or(false) {
+    out.word(if answered_legal(answered) {
         "yes"
     } else {
         "no"
     });
 }
 
-// What a walk shows where it is refused.
-const NOT_WALKED: Walked = Walked {
-    miss: None,
-    served: Units(0),
-    idle: Units(0),
-};
-
 fn put_walked(out: &mut Out, answered: Result<Walked, Refusal>, left: &[u32]) {
     out.status(&answered);
-    let walked = answered.unwrap_or(NOT_WALKED);
+    let walked = answered_walk(answered);
     match walked.miss {
         Some(miss) => {
             out.word("miss");
-            out.word(miss.at.0);
-            out.word(miss.task);
+            out.number(miss.at.0);
+            out.number(miss.task);
         }
         None => out.word("none"),
     }
-    out.word(walked.served.0);
-    out.word(walked.idle.0);
+    out.number(walked.served.0);
+    out.number(walked.idle.0);
     out.list(left);
 }
 
@@ -73,11 +65,11 @@ fn walk(words: &mut Words<'_>, out: &mut Out) {
 }
 
 // Answers the call, and says whether it is one of this crate.
-pub fn answer(call: &str, mut words: Words<'_>, out: &mut Out) -> bool {
+pub fn answer(call: &[u8], mut words: Words<'_>, out: &mut Out) -> bool {
     let words = &mut words;
     match call {
-        "legal" => legal(words, out),
-        "walk" => walk(words, out),
+        b"legal" => legal(words, out),
+        b"walk" => walk(words, out),
         _ => return false,
     }
     true

@@ -4,14 +4,13 @@ use calls::print::Out;
 use calls::rows::ROOM;
 use calls::words::Words;
 use sheet::{check, part};
-use transfer::pair::{self, Pair};
-use transfer::read;
+use transfer::{pair, read};
 
 fn sheet(words: &mut Words<'_>, out: &mut Out) {
     let mut bytes = [0u8; ROOM];
     let answered = check::check_sheet(words.row(&mut bytes));
     shown::put_status(out, &answered);
-    out.word(answered.unwrap_or(0));
+    out.number(check::answered_count(answered));
 }
 
 fn part(words: &mut Words<'_>, out: &mut Out) {
@@ -35,22 +34,19 @@ fn read_pair(words: &mut Words<'_>, out: &mut Out) {
     let place = words.place();
     let answered = pair::read_pair(sheet, place);
     shown::put_status(out, &answered);
-    let pair = answered.unwrap_or(Pair {
-        child: 0,
-        parent: 0,
-    });
-    out.word(pair.child);
-    out.word(pair.parent);
+    let pair = pair::answered_pair(answered);
+    out.number(pair.child);
+    out.number(pair.parent);
 }
 
 // Answers the call, and says whether it is one of these.
-pub(crate) fn answer(call: &str, mut words: Words<'_>, out: &mut Out) -> bool {
+pub(crate) fn answer(call: &[u8], mut words: Words<'_>, out: &mut Out) -> bool {
     let words = &mut words;
     match call {
-        "sheet" => sheet(words, out),
-        "part" => part(words, out),
-        "read" => read(words, out),
-        "read_pair" => read_pair(words, out),
+        b"sheet" => sheet(words, out),
+        b"part" => part(words, out),
+        b"read" => read(words, out),
+        b"read_pair" => read_pair(words, out),
         _ => return false,
     }
     true

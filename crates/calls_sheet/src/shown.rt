@@ -1,13 +1,13 @@
 // What an answer on a sheet shows.
-use budget::component::refused;
 use budget::known::Known;
 use calls::print::Out;
 use sheet::fault::Fault;
+use transfer::read::answered_component;
 
 // `refused` with its number and place.
 pub fn put_fault(out: &mut Out, fault: Fault) {
     out.refused(fault.refusal);
-    out.word(fault.place);
+    out.number(fault.place);
 }
 
 // `ok`, or `refused` with its number and place.
@@ -21,8 +21,5 @@ pub fn put_status<T>(out: &mut Out, answered: &Result<T, Fault>) {
 // The answer of a reading; one that is refused shows the component that stands for none.
 pub fn put_reading(out: &mut Out, answered: Result<Known, Fault>) {
     put_status(out, &answered);
-    match answered {
-        Ok(known) => out.component(known.component),
-        Err(_) => out.component(refused()),
-    }
+    out.component(answered_component(answered).component);
 }

@@ -2,6 +2,7 @@
 use budget::refusal::Refusal;
 use calls::print::Out;
 use calls::words::Words;
+use record::write::answered_place;
 use transfer::pair::{self, Pair};
 use transfer::write;
 
@@ -19,7 +20,7 @@ fn written<F: FnOnce(&mut [u8], usize) -> Result<usize, Refusal>>(
         Some(part) => {
             let answered = write(part, words.place());
             out.status(&answered);
-            out.word(answered.unwrap_or(0));
+            out.number(answered_place(answered));
             out.row(part);
         }
         None => out.unknown(),
@@ -49,12 +50,12 @@ fn write_pair(words: &mut Words<'_>, out: &mut Out) {
 }
 
 // Answers the call, and says whether it is one of these.
-pub(crate) fn answer(call: &str, mut words: Words<'_>, out: &mut Out) -> bool {
+pub(crate) fn answer(call: &[u8], mut words: Words<'_>, out: &mut Out) -> bool {
     let words = &mut words;
     match call {
-        "write" => write(words, out),
-        "write_end" => write_end(words, out),
-        "write_pair" => write_pair(words, out),
+        b"write" => write(words, out),
+        b"write_end" => write_end(words, out),
+        b"write_pair" => write_pair(words, out),
         _ => return false,
     }
     true

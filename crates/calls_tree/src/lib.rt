@@ -1,32 +1,24 @@
 // The calls on components in their tree (docs/CALLS.md), each answered by a function of its own.
 #![tactic(auto)]
 
-use budget::component::refused;
 use calls::print::Out;
 use calls::rows::ROOM;
 use calls::words::Words;
 use calls_judge::shown::put_judgement;
-use calls_sheet::shown::put_fault;
+use calls_sheet::shown::{put_fault, put_status};
 use sheet::fault::Fault;
 use tree::answer::Outcome;
-use tree::place::{judge_place, load_place};
+use tree::place::{answered_workload, judge_place, load_place};
 
 fn workload(words: &mut Words<'_>, out: &mut Out) {
     let mut bytes = [0u8; ROOM];
     let sheet = words.row(&mut bytes);
     let place = words.place();
-    match load_place(sheet, place) {
-        Ok(loaded) => {
-            out.ok();
-            match loaded.workload {
-                Some(known) => out.component(known.component),
-                None => out.word("waiting"),
-            }
-        }
-        Err(fault) => {
-            put_fault(out, fault);
-            out.component(refused());
-        }
+    let answered = load_place(sheet, place);
+    put_status(out, &answered);
+    match answered_workload(answered) {
+        Some(known) => out.component(known.component),
+        None => out.word("waiting"),
     }
 }
 
@@ -35,12 +27,12 @@ fn put_outcome(out: &mut Out, number: u16, outcome: Outcome) {
     match outcome {
         Outcome::Waiting => {
             out.ok();
-            out.word(number);
+            out.number(number);
             out.word("waiting");
         }
         Outcome::Judged(Ok(judgement)) => {
             out.ok();
-            out.word(number);
+            out.number(number);
             put_judgement(out, judgement);
         }
         Outcome::Judged(Err(refusal)) => put_fault(out, Fault { refusal, place: 0 }),
@@ -58,11 +50,11 @@ fn tree(words: &mut Words<'_>, out: &mut Out) {
 }
 
 // Answers the call, and says whether it is one of this crate.
-pub fn answer(call: &str, mut words: Words<'_>, out: &mut Out) -> bool {
+pub fn answer(call: &[u8], mut words: Words<'_>, out: &mut Out) -> bool {
     let words = &mut words;
     match call {
-        "workload" => workload(words, out),
-        "tree" => tree(words, out),
+        b"workload" => workload(words, out),
+        b"tree" => tree(words, out),
         _ => return false,
     }
     true

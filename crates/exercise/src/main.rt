@@ -10,7 +10,7 @@ use std::io::Read;
 // The answer to a line: its first word names the call, and `||` goes on to the next crate where the call is none of the one before.
 fn answer(line: &[u8], out: &mut Out) {
     let mut words = Words::of(line);
-    let call = words.name();
+    let call = words.word();
     let answered = calls_budget::answer(call, words, out)
         || calls_judge::answer(call, words, out)
         || calls_run::answer(call, words, out)

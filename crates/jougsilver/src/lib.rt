@@ -15,7 +15,7 @@ use budget::refusal::Refusal;
 use record::write::check_room;
 use sheet::check::check_sheet;
 use sheet::contents::contents_of;
-use transfer::reply::{write_checked, write_reply};
+use transfer::reply::{Checked, write_checked, write_reply};
 use tree::place::judge_place;
 
 // Each call promises two clauses, of the answer and of the bytes, over definitions of its own: a host relies on them call by call, so no two share a clause.
@@ -45,7 +45,7 @@ pub fn jougsilver_check(sheet: &[u8], reply: &mut [u8], at: usize) -> u32
     ensures answer { result ≡ check_refusal (length reply.old) at }
     ensures bytes { reply.new ≡ buffered (check_refusal (length reply.old) at) reply.old at (check_reply sheet.now) }
 {
-    number_in(write_checked(reply, at, check_sheet(sheet)))
+    number_in(write_checked(reply, at, Checked::from(check_sheet(sheet))))
 }
 
 // The refusals in their order: of the sheet, of the room for all of it.
@@ -57,7 +57,12 @@ fn judge_all(sheet: &[u8], reply: &mut [u8], at: usize) -> Result<(), Refusal>
     let count = contents.count;
     check_room(reply.len(), at, 12 + 36 * count)?;
     // With room for all of it this isn't refused.
-    let _ = write_checked(reply, at, Ok(count));
+    let taken = Checked {
+        refusal: 0,
+        place: 0,
+        count,
+    };
+    let _ = write_checked(reply, at, taken);
     put_all(sheet, &contents, &mut reply[at + 12..]);
     Ok(())
 }

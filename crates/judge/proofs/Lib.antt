@@ -7,6 +7,7 @@ pub mod SameAnswers
 pub mod SearchLaws
 pub mod StepLaws
 pub mod StepLoops
+pub mod TriedLaws
 pub mod VerdictLaws
 pub mod Whole
 pub mod Apart

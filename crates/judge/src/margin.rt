@@ -1,9 +1,9 @@
 // The margin at a capacity (RULES 8): what supply has over demand where that is least, over the step instants, and the first such instant.
-ghost use Rattle.std.specs.Prelude.{◌≡◌, ◌*◌, ◌≤◌};
+ghost use Rattle.std.specs.Prelude.{◌≡◌, ◌+◌, ◌*◌, ◌≤◌, leb};
 ghost use Rattle.std.proofs.Math.IntN.{sub_ℕ};
 ghost use Rattle.budget.specs.Limits.{limit};
 ghost use Rattle.judge.specs.inner.Scan.{Small, SmallBest};
-ghost use Rattle.judge.specs.inner.Tried.{margin_from, tighter_of};
+ghost use Rattle.judge.specs.inner.Tried.{margin_from};
 
 use crate::answer::Margin;
 use budget::quantity::Time;
@@ -16,20 +16,13 @@ pub struct Tight {
     pub demand: u32,
 }
 
-// The tighter of the tightest step instant so far and a later one; the first of equals stays.
-#[tactic(auto, unfolding(crate::specs::inner::Tried::tighter_of))]
-pub(crate) fn tighter(best: Option<Tight>, here: Tight) -> Tight
-    requires best_small { SmallBest best }
+// Whether the tightest step instant so far stays the tightest beside a later one; the first of equals does.
+pub(crate) fn stays_tightest(best: Tight, here: Tight) -> bool
+    requires best_small { Small best }
     requires here_small { Small here }
-    ensures { result ≡ tighter_of best here }
+    ensures { result ≡ leb (best.units + here.demand) (here.units + best.demand) }
 {
-    let Some(best) = best else {
-        return here;
-    };
-    if here.units + best.demand < best.units + here.demand {
-        return here;
-    }
-    best
+    best.units + here.demand <= here.units + best.demand
 }
 
 // Supply minus demand as a signed number.

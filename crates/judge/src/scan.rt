@@ -1,10 +1,10 @@
 // The one scan of the instants: what the verdict and the margin at a capacity are read from (RULES 7, 8). Between step instants demand stands still and
 // supply never falls, so only step instants are tried.
 ghost use Rattle.std.specs.Prelude.{◌≡◌};
-ghost use Rattle.judge.specs.inner.Scan.{Scannable, Triable};
+ghost use Rattle.judge.specs.inner.Scan.{Scannable, Telling, Triable};
 ghost use Rattle.judge.specs.inner.Tried.{short_on, short_tried, tight_on, tight_tried};
 
-use crate::margin::{Tight, tighter};
+use crate::margin::{Tight, stays_tightest};
 use crate::steps::{Step, Steps};
 use crate::supplied::units_at;
 use crate::verdict::sooner_short;
@@ -19,12 +19,15 @@ pub struct Scanned {
     pub tight: Option<Tight>,
 }
 
-// What is found once this instant has been tried too. It is a step instant if demand there exceeds demand before.
+// What is found once this instant has been tried too. It is a step instant if demand there exceeds demand before. Where the tightest so far stays so, all
+// that was found does: were the instant short, so was that one. This test comes first since it decides at nearly every step.
 #[tactic(auto, unfolding(crate::specs::inner::Tried::short_tried, crate::specs::inner::Tried::tight_tried))]
 fn try_instant(found: Scanned, interface: Interface, step: Step) -> Scanned
-    requires { Triable found.tight interface step }
+    requires triable { Triable found.tight interface step }
+    requires tells { Telling found.short found.tight }
     ensures short { result.short ≡ short_tried found.short interface step }
     ensures tight { result.tight ≡ tight_tried found.tight interface step }
+    ensures tells { Telling result.short result.tight }
 {
     let Step { at, before, demand } = step;
     if demand <= before {
@@ -32,9 +35,14 @@ fn try_instant(found: Scanned, interface: Interface, step: Step) -> Scanned
     }
     let units = units_at(interface, at);
     let here = Tight { at, units, demand };
+    if let Some(best) = found.tight {
+        if stays_tightest(best, here) {
+            return found;
+        }
+    }
     Scanned {
         short: sooner_short(found.short, here),
-        tight: Some(tighter(found.tight, here)),
+        tight: Some(here),
     }
 }
 

@@ -37,8 +37,13 @@ fn keep_rest(row: &mut [u8], from: usize, end: usize) -> usize
     if from > end || end > row.len() {
         return 0;
     }
+    let count = end - from;
+    // What stands at the front already stays there: else each read of a long line would move all that is held of it.
+    if from == 0 {
+        return count;
+    }
     row.copy_within(from..end, 0);
-    end - from
+    count
 }
 
 // Says on standard error why the input ends here. Where that can't be said, the input ends all the same.

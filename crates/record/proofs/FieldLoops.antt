@@ -1,11 +1,11 @@
 -- A field read byte by byte, from the highest down; and one written, against the 4 bytes that the library makes of a number, of which it is the front.
 use Prim.Native.Nat.{ℕ, zero, suc, ◌+◌, ◌-◌, ◌*◌, ◌/◌, ◌%◌, ◌^◌, ◌≤◌, ◌<◌}
 use mathlib.Core.Path.{◌≡◌, refl, ap, ap₂, ◌∙◌}
-use mathlib.Core.List.{List, ◌∷◌}
+use mathlib.Core.List.{List, [], ◌∷◌, ◌++◌, append-nil}
 use native.Mathlib.Nat.{pow-suc, pow-le-pow_right, lt_of_lt_of_le}
 use native.Mathlib.Numerals.{add-one}
 use native.Mathlib.Omega.{arith}
-use lib.ListN.{length, get_or, take}
+use lib.ListN.{length, get_or, take, drop, drop_of_length-le}
 use Rattle.std.specs.Int.{w32, to_le_bytes}
 use Rattle.record.specs.Field.{encode, field}
 
@@ -26,6 +26,13 @@ wide x =
 
 pub front : (n x : ℕ) → n ≤ 4 → take n (to_le_bytes w32 x) ≡ encode n x
 front n x h = ap (take n) (wide x) ∙ less n 4 x h
+
+-- the bytes of a slice up to its end, filled with that front
+pub filled : (l new : List ℕ) (end x : ℕ) → length l ≤ 4 → end ≡ length l → new ≡ take end (to_le_bytes w32 x) → new ++ drop end l ≡ encode (length l) x
+filled l new end x h e f =
+    let g : new ≡ encode (length l) x = f ∙ (ap (λ (n : ℕ). take n (to_le_bytes w32 x)) e ∙ front (length l) x h) in
+    let n : drop end l ≡ [] = drop_of_length-le l {i = end} (omega arith) in
+    rw (n, append-nil) g
 
 -- ---- reading
 

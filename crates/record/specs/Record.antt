@@ -1,5 +1,5 @@
 -- A record of a sheet as the definitions speak of it (RULES 10), and how the code's records and answers are read as such.
-use Rattle.std.specs.Prelude.{ℕ, ◌≡◌, Bool, Result, Ok, Err}
+use Rattle.std.specs.Prelude.{ℕ, ◌≡◌, Bool, Option, Some, None, Result, Ok, Err}
 use Rattle.budget.specs.declared.refusal.Refusal.{Refusal}
 use Rattle.budget.specs.declared.task.Task.{Task}
 use Rattle.budget.specs.Refusal.{number_of}
@@ -22,6 +22,11 @@ said (variant.Component h) = ComponentRecord h
 said (variant.Task stated k) = TaskRecord stated k
 said (variant.Pair p) = PairRecord p
 said (variant.End count) = EndRecord count
+
+-- what is to be measured or written: a record, or none; whatever refused it, none has no bytes
+abbrev pub said_of : Option code.Record → Record
+said_of (Some r) = said r
+said_of None = NoRecord 0
 
 -- what is read: a record, or the refusal's number
 abbrev pub record_in : Result code.Record Refusal → Record

@@ -22,5 +22,6 @@ pub(crate) fn put_number(bytes: &mut [u8], number: u32)
     ensures { bytes.new ≡ encode (length bytes.old) number }
 {
     let wide = number.to_le_bytes();
-    bytes.copy_from_slice(&wide[..bytes.len()]);
+    let end = bytes.len();
+    bytes[..end].copy_from_slice(&wide[..end]);
 }

@@ -3,7 +3,7 @@
 ghost use Rattle.std.specs.Prelude.{◌≡◌, length};
 ghost use Rattle.budget.specs.Refusal.{number_in};
 ghost use Rattle.record.specs.Layout.{record_bytes, size_of};
-ghost use Rattle.record.specs.Record.{said};
+ghost use Rattle.record.specs.Record.{said_of};
 ghost use Rattle.record.specs.Row.{row_bytes};
 ghost use Rattle.record.specs.Writing.{room_refusal, written, written_in, buffered, numbers_bytes};
 
@@ -39,18 +39,24 @@ pub(crate) fn write_row(
     Ok(at + size)
 }
 
-// The length of a record.
-pub fn size_of(record: Record) -> usize
-    ensures { result ≡ size_of (said «record») }
+// The length of a record, or 0 of none.
+pub fn size_of(record: Option<Record>) -> usize
+    ensures { result ≡ size_of (said_of «record») }
 {
-    record.kind().row().length()
+    match record {
+        Some(record) => record.kind().row().length(),
+        None => 0,
+    }
 }
 
-// Writes a record from a place on, and answers the place behind it.
-pub fn write_record(buffer: &mut [u8], at: usize, record: Record) -> Result<usize, Refusal>
-    ensures answer { written_in result ≡ written (room_refusal (length buffer.old) at (length (record_bytes (said «record»)))) at (record_bytes (said «record»)) }
-    ensures bytes { buffer.new ≡ buffered (room_refusal (length buffer.old) at (length (record_bytes (said «record»)))) buffer.old at (record_bytes (said «record»)) }
+// Writes a record from a place on, and answers the place behind it; of none it writes nothing.
+pub fn write_record(buffer: &mut [u8], at: usize, record: Option<Record>) -> Result<usize, Refusal>
+    ensures answer { written_in result ≡ written (room_refusal (length buffer.old) at (length (record_bytes (said_of «record»)))) at (record_bytes (said_of «record»)) }
+    ensures bytes { buffer.new ≡ buffered (room_refusal (length buffer.old) at (length (record_bytes (said_of «record»)))) buffer.old at (record_bytes (said_of «record»)) }
 {
+    let Some(record) = record else {
+        return write_row(buffer, at, Row { widths: [0; 8] }, [0; 8]);
+    };
     let kind = record.kind();
     let row = kind.row();
     let values = row.headed(u16::from(kind), record.fields());
@@ -77,4 +83,11 @@ pub fn write_numbers(
         },
         [first, second, third, 0, 0, 0, 0, 0],
     )
+}
+
+// The place behind what was written; a refused answer has 0 (RULES 11).
+pub fn answered_place(answer: Result<usize, Refusal>) -> usize
+    ensures { result ≡ (written_in answer).place }
+{
+    answer.unwrap_or(0)
 }

@@ -110,3 +110,16 @@ pub fn walk(table: Table, jobs: Jobs, trace: &[u8], left: &mut [u32]) -> Result<
     check_walk(&table, &jobs, trace, left.len())?;
     Ok(walk_accepted(&table, &jobs, trace, left))
 }
+
+// The miss, the units served and the units idle; a refused answer has no miss, and 0 of either (RULES 11).
+pub fn answered_walk(answer: Result<Walked, Refusal>) -> Walked
+    ensures miss { miss_in result.miss ≡ (walked_in answer).miss }
+    ensures served { result.served ≡ (walked_in answer).served }
+    ensures idle { result.idle ≡ (walked_in answer).idle }
+{
+    answer.unwrap_or(Walked {
+        miss: None,
+        served: Units(0),
+        idle: Units(0),
+    })
+}

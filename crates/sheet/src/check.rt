@@ -29,3 +29,10 @@ pub fn check_sheet(sheet: &[u8]) -> Result<usize, Fault>
     let found = walk(sheet)?;
     answer(sheet, &found)
 }
+
+// The count of components; a refused answer has 0 (RULES 11).
+pub fn answered_count(answer: Result<usize, Fault>) -> usize
+    ensures { result ≡ (checked_in answer).count }
+{
+    answer.unwrap_or(0)
+}

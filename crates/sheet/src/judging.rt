@@ -98,7 +98,7 @@ pub(crate) fn judge(state: State, record: Record) -> Result<Option<State>, Refus
     requires { state.place + size_of (said «record») ≤ 65_536 }
     ensures { step_in state result ≡ judged (state_in state) (said «record») }
 {
-    let place = state.place + size_of(record);
+    let place = state.place + size_of(Some(record));
     match record {
         Record::Component(head) => {
             check_head(state, head)?;

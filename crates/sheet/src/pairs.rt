@@ -39,7 +39,7 @@ fn check_ending(components: usize, count: u16, left: usize) -> Result<(), Refusa
     if usize::from(count) != components {
         return Err(Refusal::End);
     }
-    if left != size_of(Record::End(count)) {
+    if left != size_of(Some(Record::End(count))) {
         return Err(Refusal::End);
     }
     Ok(())
@@ -64,7 +64,7 @@ fn take_pair(components: &mut [Noted], course: Course, pair: Pair) -> Result<Cou
     }
     components[parent].tasks += 1;
     Ok(Course {
-        place: course.place + size_of(Record::Pair(pair)),
+        place: course.place + size_of(Some(Record::Pair(pair))),
         lowest: u32::from(pair.child) + 1,
     })
 }

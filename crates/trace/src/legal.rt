@@ -97,3 +97,10 @@ pub fn is_legal(interface: Interface, offset: Time, trace: &[u8]) -> Result<bool
     check_trace(interface, offset.0, trace)?;
     Ok(walk(interface, offset.0, trace))
 }
+
+// Yes or no; a refused answer has no (RULES 11).
+pub fn answered_legal(answer: Result<bool, Refusal>) -> bool
+    ensures { result ≡ (legality_in answer).legal }
+{
+    answer.unwrap_or(false)
+}

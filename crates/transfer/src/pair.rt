@@ -56,7 +56,7 @@ pub fn read_pairs(rest: &[u8]) -> Pairs
             return Pairs { count, pairs };
         };
         pairs[count] = pair;
-        place += size_of(Record::Pair(pair));
+        place += size_of(Some(Record::Pair(pair)));
     }
     Pairs {
         count: MOST_COMPONENTS,
@@ -89,5 +89,15 @@ pub fn write_pair(buffer: &mut [u8], at: usize, pair: Pair) -> Result<usize, Ref
     if pair.parent <= pair.child {
         return Err(Refusal::Pair);
     }
-    write_record(buffer, at, Record::Pair(pair))
+    write_record(buffer, at, Some(Record::Pair(pair)))
+}
+
+// The pair that was read; in a refused answer both numbers are 0 (RULES 11).
+pub fn answered_pair(answer: Result<Pair, Fault>) -> Pair
+    ensures { result ≡ (pair_reading_in answer).pair }
+{
+    answer.unwrap_or(Pair {
+        child: 0,
+        parent: 0,
+    })
 }

@@ -33,7 +33,7 @@ fn read_tasks(part: &[u8], start: usize) -> Table
             break;
         };
         table = append(table, task);
-        place += size_of(record);
+        place += size_of(Some(record));
     }
     table
 }
@@ -77,7 +77,7 @@ pub fn read_part(part: &[u8]) -> Known
 {
     match record_of(part) {
         Ok(Record::Component(head)) => {
-            let size = size_of(Record::Component(head));
+            let size = size_of(Some(Record::Component(head)));
             with_head(head, read_tasks(part, size))
         }
         _ => none_read(),
@@ -111,4 +111,11 @@ pub fn read_at(sheet: &[u8], edges: &[usize; 257], place: usize) -> Known
     ensures { result.component ≡ read_at sheet.now edges.now place }
 {
     read_part(part_at(sheet, edges, place))
+}
+
+// The component that was read; a refused answer has the stand-in (RULES 11).
+pub fn answered_component(answer: Result<Known, Fault>) -> Known
+    ensures { result.component ≡ (reading_in answer).component }
+{
+    answer.unwrap_or(none_read())
 }

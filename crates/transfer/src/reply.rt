@@ -2,7 +2,7 @@
 ghost use Rattle.std.specs.Prelude.{◌≡◌, ◌%◌, length};
 ghost use Rattle.record.specs.Writing.{room_refusal, written, written_in, buffered};
 ghost use Rattle.sheet.specs.Answered.{checked_in};
-ghost use Rattle.transfer.specs.Reply.{checked_bytes};
+ghost use Rattle.transfer.specs.Reply.{checked_bytes, told};
 
 use budget::refusal::Refusal;
 pub use record::reply::{Reply, write_reply};
@@ -16,20 +16,38 @@ fn low(number: usize) -> u32
     (number % 4_294_967_296) as u32
 }
 
-// Writes what a sheet was answered from a place on, and answers the place behind it.
-pub fn write_checked(
-    buffer: &mut [u8],
-    at: usize,
-    checked: Result<usize, Fault>,
-) -> Result<usize, Refusal>
-    ensures answer { written_in result ≡ written (room_refusal (length buffer.old) at 12) at (checked_bytes (checked_in checked)) }
-    ensures bytes { buffer.new ≡ buffered (room_refusal (length buffer.old) at 12) buffer.old at (checked_bytes (checked_in checked)) }
-{
-    match checked {
-        Ok(count) => write_numbers(buffer, at, 0, 0, low(count)),
-        Err(fault) => {
-            let number = u16::from(fault.refusal);
-            write_numbers(buffer, at, u32::from(number), low(fault.place), 0)
+// What a host is told of a sheet: numbers, as the C interface has them.
+#[derive(Clone, Copy)]
+pub struct Checked {
+    pub refusal: u16,
+    pub place: usize,
+    pub count: usize,
+}
+
+impl From<Result<usize, Fault>> for Checked {
+    ghost from_gives = { λ answered checked. told checked ≡ checked_in answered };
+
+    fn from(answered: Result<usize, Fault>) -> Checked {
+        match answered {
+            Ok(count) => Checked {
+                refusal: 0,
+                place: 0,
+                count,
+            },
+            Err(fault) => Checked {
+                refusal: u16::from(fault.refusal),
+                place: fault.place,
+                count: 0,
+            },
         }
     }
+}
+
+// Writes what a host is told of a sheet from a place on, and answers the place behind it.
+pub fn write_checked(buffer: &mut [u8], at: usize, checked: Checked) -> Result<usize, Refusal>
+    ensures answer { written_in result ≡ written (room_refusal (length buffer.old) at 12) at (checked_bytes (told checked)) }
+    ensures bytes { buffer.new ≡ buffered (room_refusal (length buffer.old) at 12) buffer.old at (checked_bytes (told checked)) }
+{
+    let number = u32::from(checked.refusal);
+    write_numbers(buffer, at, number, low(checked.place), low(checked.count))
 }

@@ -32,7 +32,7 @@ fn tasks_size(table: Table) -> usize
 {
     let mut size = 0;
     for task in table.tasks() {
-        size += size_of(task_record(*task));
+        size += size_of(Some(task_record(*task)));
     }
     size
 }
@@ -44,7 +44,7 @@ fn write_tasks(buffer: &mut [u8], at: usize, table: Table) -> Result<usize, Refu
 {
     let mut place = at;
     for task in table.tasks() {
-        place = write_record(buffer, place, task_record(*task))?;
+        place = write_record(buffer, place, Some(task_record(*task)))?;
     }
     Ok(place)
 }
@@ -53,7 +53,7 @@ fn component_size(component: Component) -> usize
     requires { component.table.count ≤ 64 }
     ensures { result ≡ length (component_bytes component) }
 {
-    size_of(Record::Component(Head::from(component))) + tasks_size(component.table)
+    size_of(Some(Record::Component(Head::from(component)))) + tasks_size(component.table)
 }
 
 // Writes the records of a component that is not refused when it is handed in: without room for all of them none.
@@ -63,7 +63,7 @@ pub(crate) fn store(buffer: &mut [u8], at: usize, component: Component) -> Resul
     ensures bytes { buffer.new ≡ buffered (writing_refusal (length buffer.old) at component) buffer.old at (component_bytes component) }
 {
     check_room(buffer.len(), at, component_size(component))?;
-    let place = write_record(buffer, at, Record::Component(Head::from(component)))?;
+    let place = write_record(buffer, at, Some(Record::Component(Head::from(component))))?;
     write_tasks(buffer, place, component.table)
 }
 
@@ -85,5 +85,5 @@ pub fn write_end(buffer: &mut [u8], at: usize, count: usize) -> Result<usize, Re
     if MOST_COMPONENTS < count {
         return Err(Refusal::Range);
     }
-    write_record(buffer, at, Record::End(count as u16))
+    write_record(buffer, at, Some(Record::End(count as u16)))
 }

@@ -1,9 +1,11 @@
 -- No two answers of the code have the same numbers: each is said back from what it is read as, and a refusal has a number of its own.
-use Prim.Native.Nat.{ℕ}
+use Prim.Native.Nat.{ℕ, ◌<◌}
 use mathlib.Core.Bool.{Bool, true, false}
 use mathlib.Core.Path.{◌≡◌, refl, sym, ap, ap₂}
 use native.Mathlib.Omega.{arith}
-use Rattle.std.specs.Prelude.{Option, Some, None, Ok, Err}
+use Rattle.std.specs.Prelude.{List, [], ◌∷◌, length, get_or, drop, Option, Some, None, IfSome, Ok, Err}
+use Rattle.budget.specs.declared.quantity.Time.{Time}
+use Rattle.budget.specs.declared.quantity.Units.{Units}
 use Rattle.budget.specs.declared.right.Known.{Known}
 use Rattle.budget.proofs.Refusals.{some}
 use Rattle.judge.specs.numbers.Answer.{Answer}
@@ -17,6 +19,7 @@ use Rattle.tree.specs.numbers.Load.{Load}
 use Rattle.tree.specs.numbers.Loaded.{Loaded}
 use Rattle.tree.specs.numbers.Outcome.{Outcome}
 use Rattle.tree.specs.numbers.Placed.{Placed}
+use Rattle.tree.specs.Offer.{OffersApart, capacity_in, fields_in, row_in, withheld}
 use Rattle.tree.specs.Outcome.{OutcomesApart}
 use Rattle.tree.specs.Tree.{PlacingsApart, LoadingsApart, component_in}
 use Rattle.tree.specs.Workload.{load_in}
@@ -83,3 +86,26 @@ loadings_apart =
       refused = λ f g e. faults_apart f g (ap (λ (x : Loaded). x.refusal) e) (ap (λ (x : Loaded). x.place) e);
       either = λ l f e. some f.refusal (sym (ap (λ (x : Loaded). x.refusal) e));
     }
+
+-- a capacity that is told is not the number that stands for one withheld
+capacities_apart : (u v : Option Units) → IfSome u (λ c. c.0 < withheld) → IfSome v (λ c. c.0 < withheld) → capacity_in u ≡ capacity_in v → u ≡ v
+capacities_apart None None s t e = refl
+capacities_apart None (Some d) s t e = absurd (omega (arith, t, e))
+capacities_apart (Some c) None s t e = absurd (omega (arith, s, e))
+capacities_apart (Some c) (Some d) s t e = ap (λ (n : ℕ). Some (record { 0 = n })) e
+
+pub offers_apart : OffersApart
+unfolding row_in
+offers_apart [] [] e = refl
+offers_apart [] (p ∷ b) e = let h = ap length e in absurd (omega (arith, h))
+offers_apart (o ∷ a) [] e = let h = ap length e in absurd (omega (arith, h))
+offers_apart (o ∷ a) (p ∷ b) e =
+    let number : o.number ≡ p.number = ap (λ (xs : List ℕ). get_or xs 0 0) e in
+    let capacity = capacities_apart o.capacity p.capacity o.told p.told (ap (λ (xs : List ℕ). get_or xs 1 0) e) in
+    let period : o.period.0 ≡ p.period.0 = ap (λ (xs : List ℕ). get_or xs 2 0) e in
+    let deadline : o.deadline.0 ≡ p.deadline.0 = ap (λ (xs : List ℕ). get_or xs 3 0) e in
+    ap₂ ◌∷◌
+    (ap₂ (λ (n : ℕ) (r : Option Units × (Time × Time)). (n, r)) number
+    (ap₂ (λ (u : Option Units) (r : Time × Time). (u, r)) capacity
+    (ap₂ (λ (m n : ℕ). (record { 0 = m }, record { 0 = n })) period deadline)))
+    (offers_apart a b (ap (drop 4) e))

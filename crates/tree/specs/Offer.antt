@@ -1,6 +1,7 @@
 -- What a component offers to its parent once it is judged (RULES 7): the capacity it is accepted with, for its period and deadline.
-use Rattle.std.specs.Prelude.{ℕ, Bool, cond, not, List, [], ◌∷◌, ◌++◌, Option, Some, None, eqb}
+use Rattle.std.specs.Prelude.{ℕ, ◌≡◌, Bool, cond, not, List, [], ◌∷◌, ◌++◌, map, Option, Some, None, eqb}
 use Rattle.budget.specs.declared.component.Component.{Component}
+use Rattle.budget.specs.declared.quantity.Time.{Time}
 use Rattle.budget.specs.declared.quantity.Units.{Units}
 use Rattle.budget.specs.declared.task.Task.{Task}
 use Rattle.judge.specs.numbers.Judged.{Judged}
@@ -75,3 +76,10 @@ offers_in (n ∷ q ∷ p ∷ d ∷ xs) = record { number = n; capacity = q; peri
 unfoldable pub row_in : List code.Offer → List ℕ
 row_in [] = []
 row_in (o ∷ os) = noted (offered_in o) ++ row_in os
+
+-- which settles the offers: no two rows of them are read as the same
+abbrev pub fields_in : code.Offer → ℕ × (Option Units × (Time × Time))
+fields_in o = (o.number, (o.capacity, (o.period, o.deadline)))
+
+abbrev pub OffersApart : Type 0
+OffersApart = (a b : List code.Offer) → row_in a ≡ row_in b → map fields_in a ≡ map fields_in b

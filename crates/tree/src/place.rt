@@ -1,8 +1,9 @@
 // One component of a sheet in its tree, chosen by its place: what is below it is judged, and nothing else (RULES 7, 11).
 ghost use Rattle.std.specs.Prelude.{◌≡◌};
 ghost use Rattle.tree.specs.Tree.{loaded_in, loading, placed_in, placing};
+ghost use Rattle.tree.specs.Workload.{load_in};
 
-use crate::answer::Placed;
+pub use crate::answer::Placed;
 use crate::below::load_below;
 use crate::outcome::outcome_of;
 use crate::turn::Pass;
@@ -11,7 +12,7 @@ use budget::refusal::Refusal;
 use sheet::contents::contents_of;
 use sheet::fault::Fault;
 use transfer::pair::read_pairs;
-use transfer::read::read_at;
+use transfer::read::{answered_component, read_at};
 
 // The number of the component at a place, and the component with its whole workload as its tasks, or none where it waits for a child.
 #[derive(Clone, Copy)]
@@ -55,4 +56,14 @@ pub fn judge_place(sheet: &[u8], place: usize) -> Result<Placed, Fault>
         number: found.number,
         outcome: outcome_of(found.workload),
     })
+}
+
+// The component with its whole workload, or none where it waits; a refused answer has the stand-in (RULES 11).
+pub fn answered_workload(answer: Result<Loaded, Fault>) -> Option<Known>
+    ensures { load_in result ≡ (loaded_in answer).load }
+{
+    match answer {
+        Ok(loaded) => loaded.workload,
+        Err(fault) => Some(answered_component(Err(fault))),
+    }
 }

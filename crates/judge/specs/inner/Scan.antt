@@ -1,6 +1,7 @@
 -- What a scan of the instants up to n, and the trial of one instant in it, are asked with: numbers in their ranges.
-use Rattle.std.specs.Prelude.{ℕ, ◌*◌, ◌≤◌, true, List, length, Option, Some, None, ◌≡◌}
+use Rattle.std.specs.Prelude.{ℕ, ◌*◌, ◌≤◌, ◌<◌, true, List, length, Option, Some, None, is_some, ◌≡◌}
 use Rattle.budget.specs.declared.interface.Interface.{Interface}
+use Rattle.budget.specs.declared.quantity.Time.{Time}
 use Rattle.budget.specs.declared.task.Task.{Task}
 use Rattle.budget.specs.Interface.{valid_interface}
 use Rattle.budget.specs.Limits.{limit, most_tasks}
@@ -34,3 +35,8 @@ pub record Triable (best : Option Tight) (i : Interface) (step : Step) : Type 0 
   pub supplied : Supplied i step.at
   pub asked_fits : step.demand ≤ most_tasks * (2 * limit)
   pub best_fits : SmallBest best
+
+-- where the tightest step instant so far is short, a first short one has been found
+abbrev pub Telling : Option Time → Option Tight → Type 0
+Telling short None = Unit {0}
+Telling short (Some best) = best.units < best.demand → is_some short ≡ true

@@ -1,5 +1,5 @@
 -- `judge::scan::scan` meets its contract. The loop's invariant: the walk is over the tasks, and what is found is the first short instant and the
--- tightest step instant before its next one. The measure is what is left of the instants.
+-- tightest step instant before its next one, and where the tightest is short a short one is found. The measure is what is left of the instants.
 use Prim.Native.Nat.{ℕ, suc, ◌≤◌}
 use mathlib.Core.Path.{sym, ◌∙◌, ap, subst}
 use native.Mathlib.Omega.{arith}
@@ -27,6 +27,7 @@ loop-steps-init c =
       carried_start _ pre.tasks _ c.new-steps.ensures,
       subst (λ (at : ℕ). Sought c.args.tasks.now c.args.interface c.args.length.0 at None) (sym c.new-steps.ensures.at) (fits_start _ _),
       subst (λ (at : ℕ). Best c.args.tasks.now c.args.interface c.args.length.0 at None) (sym c.new-steps.ensures.at) (best_start _ _ _),
+      record {},
     )
 
 pub pass-step-requires : goal.pass-step-requires
@@ -40,9 +41,12 @@ try_instant-found-requires c =
     let is = (on a).tells in
     let h : suc c.loop-steps.invariant.0.before ≤ limit = omega (arith, in_limit a, c.loop-steps.invariant.0.is) in
     record {
-      supplied = record { interface = pre.interface; bounded = omega (arith, h, ap (λ (s : Step). s.at) is) };
-      asked_fits = omega (arith, demand_small _ c.args.interface pre.tasks pre.few _ h, ap (λ (s : Step). s.demand) is);
-      best_fits = best_small _ _ pre.tasks (valid_interface_lem _ pre.interface) pre.few _ _ _ pre.bounded c.loop-steps.invariant.2;
+      tells = c.loop-steps.invariant.3;
+      triable = record {
+        supplied = record { interface = pre.interface; bounded = omega (arith, h, ap (λ (s : Step). s.at) is) };
+        asked_fits = omega (arith, demand_small _ c.args.interface pre.tasks pre.few _ h, ap (λ (s : Step). s.demand) is);
+        best_fits = best_small _ _ pre.tasks (valid_interface_lem _ pre.interface) pre.few _ _ _ pre.bounded c.loop-steps.invariant.2;
+      };
     }
 
 pub loop-steps-smaller : goal.loop-steps-smaller
@@ -61,6 +65,7 @@ loop-steps-preserved c =
       sought_next _ _ c.requires.tasks (valid_interface_lem _ c.requires.interface) _ _ _ h m.still _ _ short
           (subst (λ (at : ℕ). Sought c.args.tasks.now i c.args.length.0 at c.loop-steps.found.short) k.0.is k.1),
       best_next _ _ _ _ _ _ _ h m.later (subst (λ (at : ℕ). Best c.args.tasks.now i c.args.length.0 at c.loop-steps.found.tight) k.0.is k.2) m.still tight,
+      c.try_instant-found.ensures.tells,
     )
 
 pub returns-clause-short : goal.returns-clause-short

@@ -1,9 +1,10 @@
 -- The bytes taken are the front of the number's 4.
 use mathlib.Core.Path.{ap, ◌∙◌}
-use lib.ListN.{length, take}
-use Rattle.record.proofs.FieldLoops.{front}
+use native.Mathlib.Omega.{arith}
+use lib.ListN.{take}
+use Rattle.record.proofs.FieldLoops.{filled}
 use Rattle.record.proofs.field.put_number.Goals as goal
 
 pub returns : goal.returns
-returns c = let a = c.args in let n = length a.bytes.now in
-    c.copy_from_slice.ensures.after ∙ (ap (take n) c.to_le_bytes-wide.ensures ∙ front n a.number c.requires)
+returns c = let a = c.args in
+    filled a.bytes.now c.copy_from_slice.new.self _ a.number c.requires (omega arith) (c.copy_from_slice.ensures.after ∙ ap (take _) c.to_le_bytes-wide.ensures)
