@@ -1,10 +1,10 @@
 -- What an amount of service is answered as: the refusal of what is asked about, then that of the instant, then the amount. Demand and supply answer by the same tests, so the laws are over the refusal and the amount.
 use Prim.Native.Nat.{ℕ, ◌≤◌}
-use mathlib.Core.Path.{◌≡◌, refl, sym}
+use mathlib.Core.Path.{◌≡◌, refl}
 use mathlib.Core.Bool.{Bool, true, false, cond}
 use native.Mathlib.Omega.{arith}
 use lib.Dec.{leb, eqb}
-use borrow.Author.Tests.{le-leb, leb-true, ne_eqb}
+use borrow.Author.Tests.{le-leb, leb-true, ne_eqb, eqb-true, eqb-false}
 use Rattle.budget.specs.declared.interface.Interface.{Interface}
 use Rattle.budget.specs.Answered.{Amount}
 use Rattle.budget.specs.declared.task.Table.{Table}
@@ -30,16 +30,14 @@ failed false h = refl
 abbrev pub at_instant : ℕ → ℕ → ℕ
 at_instant n t = cond (eqb n refusal.none) (cond (leb t limit) refusal.none refusal.range) n
 
--- what is asked about decides, and where it is not refused the instant does
-pub at_first : (n m t : ℕ) → n ≡ m → (n ≡ refusal.none → ⊥) → n ≡ at_instant m t
-at_first n m t e h = rw (← e, ne_eqb n refusal.none h)
-
-pub at_second : (n m t : ℕ) → refusal.none ≡ m → n ≡ cond (leb t limit) refusal.none refusal.range → n ≡ at_instant m t
-at_second n m t e f = rw (← e) f
-
--- an instant that is not refused is within the limit
-pub instant_passed : (t : ℕ) → refusal.none ≡ cond (leb t limit) refusal.none refusal.range → t ≤ limit
-instant_passed t e = leb-true t limit (passed (leb t limit) (sym e))
+-- there is none where there is none of either
+pub instant_passed : (n t : ℕ) → at_instant n t ≡ refusal.none → (n ≡ refusal.none) × (t ≤ limit)
+instant_passed n t = go (eqb n refusal.none) (leb t limit) refl refl
+  where
+    go : (b w : Bool) → eqb n refusal.none ≡ b → leb t limit ≡ w → cond b (cond w refusal.none refusal.range) n ≡ refusal.none → (n ≡ refusal.none) × (t ≤ limit)
+    go true true x y e = (eqb-true _ _ x, leb-true _ _ y)
+    go true false x y e = absurd (omega (arith, e))
+    go false w x y e = absurd (eqb-false _ _ x e)
 
 -- the answer there, v being the amount
 abbrev pub answer : ℕ → ℕ → Amount

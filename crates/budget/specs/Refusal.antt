@@ -1,7 +1,6 @@
 -- The refusal numbers by name (RULES 12), and how an answer is read as such a number. 0 stands for no refusal.
 use Rattle.std.specs.Prelude.{ℕ, Result, Ok, Err, ◌≡◌}
 use Rattle.budget.specs.declared.refusal.Refusal.{Refusal}
-use Rattle.budget.specs.declared.refusal.Refusal.TheVariants as Refusal
 
 abbrev pub none : ℕ
 none = 0

@@ -41,7 +41,6 @@ fn units_due(tasks: &[Task], at: u32) -> u32
 pub fn demand(table: Table, t: Time) -> Result<Units, Refusal>
     ensures { amount_in result ≡ Demand.demand_answer table t.0 }
 {
-    check_table(table)?;
-    check_instant(t)?;
+    check_instant(check_table(table), t)?;
     Ok(Units(units_due(table.tasks(), t.0)))
 }

@@ -39,7 +39,6 @@ fn units_by(interface: Interface, at: u32) -> u32
 pub fn supply(interface: Interface, t: Time) -> Result<Units, Refusal>
     ensures { amount_in result ≡ Supply.supply_answer interface t.0 }
 {
-    check_interface(interface)?;
-    check_instant(t)?;
+    check_instant(check_interface(interface), t)?;
     Ok(Units(units_by(interface, t.0)))
 }

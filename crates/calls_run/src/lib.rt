@@ -10,9 +10,9 @@ use run::walk::{Walked, answered_walk, walk as walk_jobs};
 use trace::legal::{answered_legal, is_legal};
 
 fn legal(words: &mut Words<'_>, out: &mut Out) {
+    let mut bytes = [0u8; ROOM];
     let interface = words.interface();
     let offset = words.time();
-    let mut bytes = [0u8; ROOM];
     let trace = words.row(&mut bytes);
     let answered = is_legal(interface, offset, trace);
     out.status(&answered);

@@ -20,15 +20,15 @@ use Rattle.budget.proofs.edit.removed_at.Goals as goal
 use Rattle.budget.proofs.edit.removed_at.Goals.{After-append_all-left}
 
 -- the tasks before a place and those after it, put together; the part after it is as long as there are tasks left
-joined : (t r : Table) (ks : List Task) (n : ℕ) → t ≡ table_of (take n ks) → r ≡ table_of (tasks_of t ++ take (length ks - (n + 1)) (drop (n + 1) ks)) → r ≡ table_of (removed ks n)
+joined : (t r : Table) (ks : List Task) (n k : ℕ) → k ≡ n + 1 → t ≡ table_of (take n ks) → r ≡ table_of (tasks_of t ++ take (length ks - k) (drop k ks)) → r ≡ table_of (removed ks n)
 unfolding removed
-joined t r ks n e f =
-    rw (tasks_are t _ e, take_all (length ks - (n + 1)) (drop (n + 1) ks) (omega (arith, length-drop (n + 1) ks)), add-one n) at f
+joined t r ks n k h e f =
+    rw (tasks_are t _ e, take_all (length ks - k) (drop k ks) (omega (arith, length-drop k ks)), h, add-one n) at f
 
 -- the table that is left is that of the tasks that are
 shorter : (c : After-append_all-left) → c.append_all-left.result ≡ table_of (removed (tasks_of c.args.component.table) c.args.place)
 shorter c =
-    rw (← c.tasks-tasks.ensures) (joined _ _ c.tasks-tasks.result.now c.args.place c.table_from-before.ensures c.append_all-left.ensures)
+    rw (← c.tasks-tasks.ensures) (joined _ _ c.tasks-tasks.result.now c.args.place _ (omega (arith, c.if-tasks-place.false)) c.table_from-before.ensures c.append_all-left.ensures)
 
 -- the code counts the tasks that it has, the definition the table's count: they are the same where that is in range
 counted : (t : Table) (ks : List Task) → t.count ≤ most_tasks → length t.tasks ≡ most_tasks → ks ≡ tasks_of t → length ks ≡ t.count
@@ -55,8 +55,8 @@ append_all-left-requires c =
             arith,
             count_is _ _ c.table_from-before.ensures,
             length-take n ks,
-            length-take (length ks - (n + 1)) (drop (n + 1) ks),
-            length-drop (n + 1) ks,
+            length-take {A = Task},
+            length-drop {A = Task},
             ap (λ (l : List Task). length l) c.tasks-tasks.ensures,
             few c.args.component.table c.requires,
             c.if-tasks-place.false,
